@@ -1,0 +1,15 @@
+-- The laws of the ground, each file over the ones before it.
+--   BetaLaws    the beta that leads back
+--   AnswerLaws  tests one after the other, and the call behind them
+--   MapLaws     the size test and each case of a breach
+--   Formed      both tests pass exactly where the rows are well formed
+--   CoreLaws    each case of the cores
+--   GuardLaws   each case of the guard, and what holds once it has passed
+--   ReadLaws    the tests of a read and each case of a free test
+pub mod BetaLaws
+pub mod AnswerLaws
+pub mod MapLaws
+pub mod Formed
+pub mod CoreLaws
+pub mod GuardLaws
+pub mod ReadLaws

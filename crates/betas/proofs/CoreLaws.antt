@@ -10,7 +10,7 @@ use Rattle.betas.specs.declared.error.Refusal.the-variants.{NonFreeBase,
 use Rattle.betas.specs.Betas.{cell, beta, opp, put, cut}
 use Rattle.betas.specs.Answers.{Out, out, pass}
 use Rattle.betas.specs.Cores.{linkCore, unlinkCore}
-use Rattle.betas.proofs.BetaLaws.{no-self}
+use Rattle.betas.proofs.BetaLaws.{no-self, opp-high}
 
 module _ (rows : List ℕ) (i l r : ℕ) where
   pub link-base : beta rows i l ≢ 0 → out (Refused (NonFreeBase i l r)) rows ≡ linkCore rows i l r
@@ -22,9 +22,11 @@ module _ (rows : List ℕ) (i l r : ℕ) where
   link-image j e z n = simp (← e, eq-eqb _ _ z, ne-eqb _ _ n)
 
   pub link-self : (j : ℕ) → j ≡ opp i → beta rows i l ≡ 0 → beta rows j r ≡ 0 → 2 ≤ i → l ≡ r →
-      out (Refused (NonFreeImage j l r)) rows ≡ linkCore rows i l r
+      out (Refused (NonFreeImage i l r)) rows ≡ linkCore rows i l r
   unfolding linkCore
-  link-self j e z n h s = simp (← e, eq-eqb _ _ z, eq-eqb _ _ n, le-leb _ _ h, eq-eqb l r s)
+  link-self j e z n h s =
+      ap (λ (k : ℕ). out (Refused (NonFreeImage k l r)) rows) (sym (opp-high i h))
+      ∙ simp (← e, eq-eqb _ _ z, eq-eqb _ _ n, le-leb _ _ h, eq-eqb l r s)
 
   pub link-done : (j : ℕ) (a b : List ℕ) → j ≡ opp i → beta rows i l ≡ 0 → beta rows j r ≡ 0 → (2 ≤ i → l ≢ r) →
       a ≡ set rows (cell i l) r → b ≡ set a (cell j r) l → out pass b ≡ linkCore rows i l r

@@ -3,13 +3,17 @@
 --   AnswerLaws  tests one after the other, and the call behind them
 --   MapLaws     the size test and each case of a breach
 --   Formed      both tests pass exactly where the rows are well formed
+--   Stores      a pair of stores that links or unlinks: which images change, and that a map stays a map
 --   CoreLaws    each case of the cores
+--   Kept        what a core that is done does: a map stays a map, two images change, an unlink undoes a link
 --   GuardLaws   each case of the guard, and what holds once it has passed
 --   ReadLaws    the tests of a read and each case of a free test
 pub mod BetaLaws
 pub mod AnswerLaws
 pub mod MapLaws
 pub mod Formed
+pub mod Stores
 pub mod CoreLaws
+pub mod Kept
 pub mod GuardLaws
 pub mod ReadLaws

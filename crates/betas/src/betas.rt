@@ -45,7 +45,7 @@ pub fn link_core(rows: &mut [u32], i: u32, l: u32, r: u32) -> Answer
     }
     if 1 < i {
         if l == r {
-            return Answer::Refused(Refusal::NonFreeImage(j, l, r));
+            return Answer::Refused(Refusal::NonFreeImage(i, l, r));
         }
     }
     set_beta(rows, i, l, r);

@@ -1,0 +1,2 @@
+-- The worked examples of the geometry test.
+pub mod Examples

@@ -1,0 +1,38 @@
+// The map test, beta reads and free tests.
+use crate::flat::hand_on;
+ghost use mathlib.Core.Path.{_≡_};
+ghost use Rattle.betas.specs.Maps.{checkMap};
+ghost use Rattle.betas.specs.Reads.{betaRead, iFree, isFree};
+ghost use Rattle.inkcapper.specs.Flat.{flat, flatOf};
+
+// Whether the rows are a 3-map: refusals 1 and 3.
+#[no_mangle]
+pub extern "C" fn inkcapper_check_map(rows: &[u32], values: &mut [u64; 3]) -> u32
+    ensures { λ r. ⌜ flat r (now (values .exit)) ≡ flatOf (checkMap (now (rows .entry))) ⌝ }
+{
+    hand_on(betas::structure::check_map(rows), values)
+}
+
+// The image of d by beta i.
+#[no_mangle]
+pub extern "C" fn inkcapper_beta(rows: &[u32], i: u32, d: u32, values: &mut [u64; 3]) -> u32
+    ensures { λ r. ⌜ flat r (now (values .exit)) ≡ flatOf (betaRead (now (rows .entry)) i d) ⌝ }
+{
+    hand_on(betas::basic_ops::beta(rows, i, d), values)
+}
+
+// Whether the image of d by beta i is null.
+#[no_mangle]
+pub extern "C" fn inkcapper_is_i_free(rows: &[u32], i: u32, d: u32, values: &mut [u64; 3]) -> u32
+    ensures { λ r. ⌜ flat r (now (values .exit)) ≡ flatOf (iFree (now (rows .entry)) i d) ⌝ }
+{
+    hand_on(betas::basic_ops::is_i_free(rows, i, d), values)
+}
+
+// Whether d has no image.
+#[no_mangle]
+pub extern "C" fn inkcapper_is_free(rows: &[u32], d: u32, values: &mut [u64; 3]) -> u32
+    ensures { λ r. ⌜ flat r (now (values .exit)) ≡ flatOf (isFree (now (rows .entry)) d) ⌝ }
+{
+    hand_on(betas::basic_ops::is_free(rows, d), values)
+}

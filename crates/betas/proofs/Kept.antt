@@ -2,7 +2,9 @@
 --   link-pair, unlink-pair       the core's answer and rows: the pair that it stores
 --   link-keeps, unlink-keeps     the map stays well formed
 --   link-changes, unlink-changes exactly the two images named have changed
+--   link-refused, unlink-refused a core that refuses leaves the rows as they were
 --   unlink-undoes                an unlink after a link answers r and gives back every row
+--   link-undoes                  a link after an unlink gives back every row
 -- Assumes nothing.
 use Prim.Native.Nat.{ℕ, _<_, _≤_}
 use native.Mathlib.Omega.{arith}
@@ -31,6 +33,30 @@ pub record Changed (rows : List ℕ) (i l r a b : ℕ) (rows′ : List ℕ) : Ty
 
 refuses : (o : Out) (a : Answer) (rows : List ℕ) → out a rows ≡ o → isDone a ≡ false → isDone (o .answer) ≡ true → ⊥
 refuses o a rows e f t = true≢false (sym t ∙ sym (ap (λ (x : Out). isDone (x .answer)) e) ∙ f)
+
+refused-rows : (o : Out) (a : Answer) (rows : List ℕ) → out a rows ≡ o → o .rows ≡ rows
+refused-rows o a rows e = sym (ap (λ (x : Out). x .rows) e)
+
+does : (o : Out) (a : Answer) (rows : List ℕ) → out a rows ≡ o → isDone a ≡ true → isDone (o .answer) ≡ false → ⊥
+does o a rows e f t = true≢false (sym f ∙ ap (λ (x : Out). isDone (x .answer)) e ∙ t)
+
+pub link-refused : (rows : List ℕ) (i l r : ℕ) → isDone (linkCore rows i l r .answer) ≡ false → linkCore rows i l r .rows ≡ rows
+link-refused rows i l r t =
+    by-cases (ℕ-discrete (beta rows i l) 0)
+    (λ (z : beta rows i l ≡ 0). by-cases (ℕ-discrete (beta rows (opp i) r) 0)
+    (λ (y : beta rows (opp i) r ≡ 0). by-cases (decLt i 2)
+    (λ (h : i < 2). absurd (does _ _ _ (link-done rows i l r _ _ _ refl z y (λ g. absurd (omega arith)) refl refl) refl t))
+    (λ (h : i < 2 → ⊥). by-cases (ℕ-discrete l r)
+    (λ (e : l ≡ r). refused-rows _ _ _ (link-self rows i l r _ refl z y (omega arith) e))
+    (λ (n : l ≢ r). absurd (does _ _ _ (link-done rows i l r _ _ _ refl z y (λ g. n) refl refl) refl t))))
+    (λ (n : beta rows (opp i) r ≢ 0). refused-rows _ _ _ (link-image rows i l r _ refl z n)))
+    (λ (n : beta rows i l ≢ 0). refused-rows _ _ _ (link-base rows i l r n))
+
+pub unlink-refused : (rows : List ℕ) (i l : ℕ) → isDone (unlinkCore rows i l .answer) ≡ false → unlinkCore rows i l .rows ≡ rows
+unlink-refused rows i l t =
+    by-cases (ℕ-discrete (beta rows i l) 0)
+    (λ (z : beta rows i l ≡ 0). refused-rows _ _ _ (unlink-free rows i l z))
+    (λ (n : beta rows i l ≢ 0). absurd (does _ _ _ (unlink-done rows i l _ _ _ _ refl refl n refl refl) refl t))
 
 module _ (rows : List ℕ) (i l r : ℕ) (w : WellFormed rows) (h₁ : 1 ≤ i) (h₄ : i < 4) (dl : Dart (darts rows) 1 l) (dr : Dart (darts rows) 1 r)
     (t : isDone (linkCore rows i l r .answer) ≡ true) where
@@ -127,3 +153,12 @@ module _ (rows : List ℕ) (i l : ℕ) (w : WellFormed rows) (h₁ : 1 ≤ i) (h
         right = image-r true rows i l (beta rows i l) (w .sized) (unlink-pair .0);
         others = image-other true rows i l (beta rows i l) (w .sized) (unlink-pair .0);
       })
+
+  pub link-undoes : linkCore (unlinkCore rows i l .rows) i l (beta rows i l) ≡ out pass rows
+  link-undoes =
+      let p = unlink-pair .0 in
+      let r : ℕ = beta rows i l in
+      rw unlinked
+      (sym
+      (link-done (paired true rows i l r) i l r (opp i) _ rows refl (image-l true rows i l r (w .sized) p) (image-r true rows i l r (w .sized) p) (p .apart)
+      refl (sym (pair-back true rows i l r (w .sized) p))))

@@ -6,6 +6,7 @@
 --   Stores      a pair of stores that links or unlinks: which images change, and that a map stays a map
 --   CoreLaws    each case of the cores
 --   Kept        what a core that is done does: a map stays a map, two images change, an unlink undoes a link
+--   Always      what a core leaves whether it is done or refuses
 --   GuardLaws   each case of the guard, and what holds once it has passed
 --   ReadLaws    the tests of a read and each case of a free test
 pub mod BetaLaws
@@ -15,5 +16,6 @@ pub mod Formed
 pub mod Stores
 pub mod CoreLaws
 pub mod Kept
+pub mod Always
 pub mod GuardLaws
 pub mod ReadLaws

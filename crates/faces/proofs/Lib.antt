@@ -1,0 +1,3 @@
+pub mod LegLaws
+pub mod LeastLaws
+pub mod KeepingLaws

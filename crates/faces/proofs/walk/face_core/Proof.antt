@@ -1,0 +1,47 @@
+-- `walk::face_core` meets its contract: the walk with nothing marked before, and scratch set back. Assumes nothing.
+use mathlib.Core.Path.{_≡_, refl, sym, ap, _∙_}
+use mathlib.Core.List.{List, _++_}
+use Prim.Native.Nat.{ℕ, _≤_}
+use native.Mathlib.Omega.{arith}
+use lib.ListN.{length, replicate}
+use Rattle.orbits.proofs.QueueLaws.{queue-none, cleared-all}
+use Rattle.orbits.proofs.ScratchLaws.{zero-split}
+use Rattle.faces.specs.Faces.{faceId}
+use borrow.Author.Needs.{needs}
+use Rattle.faces.proofs.walk.face_core.Statement.{statement}
+use Rattle.faces.proofs.walk.face_core.Tie as tie
+
+walk-requires : tie.Need-walk-requires
+walk-requires c κs =
+    let s = c .before .before .before .before .before in
+    (s .pre .0, s .pre .1, queue-none _ _ (s .pre .2))
+
+clear-requires : tie.Need-clear-requires
+clear-requires c κs = search needs
+
+wipe-queue-requires : tie.Need-wipe-queue-requires
+wipe-queue-requires c κs = search needs
+
+same-length : tie.Need-same-length
+same-length c = search needs
+
+same-length-2 : tie.Need-same-length-2
+same-length-2 c = search needs
+
+returns : tie.Need-returns
+unfolding faceId
+returns c =
+    let s = c .before .before .before .before .before .before .before .before .before .before .before .before .before .before .before .before .before .before .before in
+    let w = c .before .before .before .before .before .before .before .before .before .before .before .before .before .walk in
+    let k = c .before .before .before .before .before .before .clear in
+    let g = w .ensures .grown in
+    let f : w .result .k ≤ length (s .args .queue .now) = omega (arith, g .queue .room, w .kept .1 .1 .0) in (
+      cleared-all (s .args .marks .now) (w .last .1 .0) (w .last .1 .1 .0) (k .last .0) (w .result .k) (s .pre .2) (w .kept .1 .0) (k .kept .0) (g .queue) (k .ensures),
+      c .before .before .wipe-queue .ensures ∙ ap (λ (t : List ℕ). replicate (w .result .k) 0 ++ t) (g .back) ∙ zero-split (s .args .queue .now) (w .result .k) (s .pre .3) f,
+      w .ensures .low-is,
+    )
+
+pub face-core-spec : {M : Type 1} → statement M
+face-core-spec =
+    tie.close
+    (tie.spec walk-requires clear-requires wipe-queue-requires same-length same-length-2 returns)

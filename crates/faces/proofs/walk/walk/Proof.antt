@@ -1,0 +1,91 @@
+-- `walk::walk` meets its contract: the forward leg, and the backward one where that ended on a null dart. Assumes nothing.
+use mathlib.Core.Path.{_≡_}
+use mathlib.Core.Logic.{inl, inr, ⊎-elim}
+use Prim.Native.Nat.{ℕ, _<_}
+use native.Mathlib.Omega.{arith}
+use lib.ListN.{length}
+use Rattle.betas.specs.Betas.{darts}
+use Rattle.orbits.proofs.ScratchLaws.{scratch-same}
+use Rattle.faces.proofs.LegLaws.{walked-one, walked-two}
+use borrow.Author.Needs.{needs}
+use Rattle.faces.proofs.walk.walk.Statement.{statement}
+use Rattle.faces.proofs.walk.walk.Tie as tie
+
+beta-at-requires : tie.Need-beta-at-requires
+beta-at-requires c κs = omega (arith, c .before .before .before .pre .0 .formed .sized .whole, c .before .before .before .pre .1)
+
+lower-requires : tie.Need-lower-requires
+lower-requires c κs = search needs
+
+leg-requires : tie.Need-leg-requires
+leg-requires c κs =
+    let s = c .before .before .before .before .before .before .before in (
+      s .pre .0,
+      omega arith,
+      omega arith,
+      s .pre .1,
+      rw (c .before .before .before .beta-at .ensures) (s .pre .0 .formed .below _ _),
+      s .pre .2,
+    )
+
+same-length : tie.Need-same-length
+same-length c = search needs
+
+same-length-2 : tie.Need-same-length-2
+same-length-2 c = search needs
+
+returns : tie.Need-returns
+returns c =
+    let s = c .before .before .before .before .before .before .before .before .before .before .before .before .before .before in
+    walked-one (s .args .rows .now) _ (s .args .d) _ _ (c .before .before .before .before .before .before .before .before .before .before .beta-at .ensures) (c .before .before .before .before .before .before .before .before .before .lower .ensures) _ _ _ _ _ _ _ _ (c .before .before .before .before .before .before .leg .ensures) (c .before .if1 .taken) (c .if2 .taken)
+
+beta-at-requires-2 : tie.Need-beta-at-requires-2
+beta-at-requires-2 c κs = omega (arith, c .before .before .before .before .before .before .before .before .before .before .before .before .before .pre .0 .formed .sized .whole, c .before .before .before .before .before .before .before .before .before .before .before .before .before .pre .1)
+
+beta-at-requires-3 : tie.Need-beta-at-requires-3
+beta-at-requires-3 c κs =
+    let s = c .before .before .before .before .before .before .before .before .before .before .before .before .before .before in
+    let h : c .before .before .before .before .before .before .before .before .before .before .beta-at .result < darts (s .args .rows .now) = rw (c .before .before .before .before .before .before .before .before .before .before .beta-at .ensures) (s .pre .0 .formed .below _ _) in
+    omega (arith, s .pre .0 .formed .sized .whole)
+
+leg-requires-2 : tie.Need-leg-requires-2
+leg-requires-2 c κs =
+    let s = c .before .before .before .before .before .before .before .before .before .before .before .before .before .before .before .before .before in
+    let g = c .before .before .before .before .before .before .before .before .before .leg in (
+      scratch-same (s .args .rows .now) (s .args .marks .now) (s .args .queue .now) _ _ (s .pre .0) (g .kept .1 .0) (g .kept .1 .1 .0),
+      omega arith,
+      omega arith,
+      rw (c .before .before .before .beta-at2 .ensures) (s .pre .0 .formed .below _ _),
+      rw (c .before .before .beta-at3 .ensures) (s .pre .0 .formed .below _ _),
+      g .ensures .grown .queue,
+    )
+
+same-length-3 : tie.Need-same-length-3
+same-length-3 c = search needs
+
+same-length-4 : tie.Need-same-length-4
+same-length-4 c = search needs
+
+returns-2 : tie.Need-returns-2
+returns-2 c =
+    let s = c .before .before .before .before .before .before .before .before .before .before .before .before .before .before .before .before .before .before .before .before .before .before in
+    walked-two (s .args .rows .now) _ (s .args .d) _ _ (c .before .before .before .before .before .before .before .before .before .before .before .before .before .before .before .before .before .before .beta-at .ensures) (c .before .before .before .before .before .before .before .before .before .before .before .before .before .before .before .before .before .lower .ensures) _ _ _ _ _ _ _ _ (c .before .before .before .before .before .before .before .before .before .before .before .before .before .before .leg .ensures)
+    (⊎-elim (λ w. inr (w .1 .left)) (λ w. inl (w .left)) (c .before .before .before .before .before .before .before .before .before .if1 .came))
+    _ _ (c .before .before .before .before .before .before .before .before .beta-at2 .ensures) (c .before .before .before .before .before .before .before .beta-at3 .ensures) _ _ _ _ _ _ (c .before .before .before .before .leg2 .ensures)
+
+pub walk-spec : {M : Type 1} → statement M
+walk-spec =
+    tie.close
+    (tie.spec
+    beta-at-requires
+    lower-requires
+    leg-requires
+    same-length
+    same-length-2
+    returns
+    beta-at-requires-2
+    beta-at-requires-3
+    leg-requires-2
+    same-length-3
+    same-length-4
+    returns-2)

@@ -1,0 +1,3 @@
+-- The definitions of faces.
+--   Faces   the walk of `face_id`
+pub mod Faces

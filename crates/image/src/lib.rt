@@ -1,0 +1,3 @@
+// The reader of stored images.
+pub mod fill;
+pub mod reader;

@@ -1,0 +1,161 @@
+-- Going through the darts in order, with the cells of the darts passed marked: a dart that is not marked is the least of its cell. Assumes nothing.
+use mathlib.Core.Path.{_≡_, refl, sym, ap, _∙_, subst}
+use mathlib.Core.Bool.{Bool, true, false, cond, _&&_, and-false}
+use mathlib.Core.Logic.{_⊎_, inl, inr, ⊎-elim}
+use mathlib.Core.List.{List, [], _∷_, _++_, List·Memᴰ·head, List·Memᴰ·tail, List·Memᴰ·not-nil, List·Memᴰ·eq-of-singleton, List·Memᴰ·append-cases, Memᴰ·append-left, Memᴰ·append-right}
+use mathlib.Mathlib.Logic.Relation.{ReflTransGenᴰ, ReflTransGenᴰ·refl, ReflTransGenᴰ·tail, ReflTransGenᴰ·single}
+use Prim.Native.Nat.{ℕ, zero, suc, _+_, _-_, _≤_, _<_}
+use native.Mathlib.Nat.{eq-or-lt-of-le, le-of-suc-le-suc, lt-irrefl}
+use native.Mathlib.Omega.{arith}
+use lib.Dec.{eqb}
+use lib.ListN.{length, getD, length-append, List·getD-append}
+use borrow.Author.Tests.{eqb-true, eqb-false, eq-eqb, ne-eqb}
+use Rattle.lists.specs.CellLists.{cellsFrom}
+use Rattle.betas.specs.Betas.{darts}
+use Rattle.orbits.specs.Idents.{ident}
+use Rattle.orbits.specs.Search.{In, NoRep, search, Step, Reach, Bounded, Symmetric}
+use Rattle.orbits.specs.Steps.{image}
+use Rattle.orbits.proofs.Lists.{bool, in-at, norep-snoc}
+use Rattle.orbits.proofs.SearchLaws.{Ext, ext-refl, ext-in, Good, Passes}
+use Rattle.orbits.proofs.OrbitLaws.{Has, State, Finished, finished, closed-reach, image-below}
+use Rattle.orbits.proofs.IdentLaws.{reach-real, reach-below, ident-reached, ident-le, ident-same, ident-one, ident-twice}
+
+-- l has the darts whose identifier is below d, and no others
+pub record Known (rows steps : List ℕ) (d : ℕ) (l : List ℕ) : Type 0 where
+  pub only : (x : ℕ) → In x l → ident rows steps x < d
+  pub every : (x : ℕ) → x < darts rows → (x ≡ 0 → ⊥) → ident rows steps x < d → In x l
+
+module _ (rows steps : List ℕ) (b : Bounded rows) (y : Symmetric rows steps) where
+  abbrev id : ℕ → ℕ
+  id x = ident rows steps x
+
+  id-real : (x : ℕ) → x < darts rows → (x ≡ 0 → ⊥) → id x ≡ 0 → ⊥
+  id-real x h r = reach-real rows steps r (ident-reached rows steps b x h)
+
+  pub known-starts : Known rows steps 1 []
+  known-starts =
+      record {
+        only = λ x m. absurd (List·Memᴰ·not-nil m);
+        every = λ x h r l. let z : id x ≡ 0 = omega arith in absurd (id-real x h r z);
+      }
+
+  module _ (d : ℕ) (l : List ℕ) (h : d < darts rows) (v : Known rows steps d l) where
+    -- a listed dart is not its own identifier
+    pub known-old : In d l → id d ≡ d → ⊥
+    known-old m e = omega (arith, v .only d m)
+
+    pub known-same : In d l → Known rows steps (d + 1) l
+    known-same m =
+        record {
+          only = λ x q. omega (arith, v .only x q);
+          every = λ x x-lt r q.
+              ⊎-elim
+              (λ e. absurd (known-old m (subst (λ (z : ℕ). id z ≡ z) e (ident-twice rows steps b y x x-lt))))
+              (λ t. v .every x x-lt r t)
+              (below-or x d q);
+        }
+      where
+        below-or : (x e : ℕ) → id x < e + 1 → (id x ≡ e) ⊎ (id x < e)
+        below-or x e q = eq-or-lt-of-le (omega arith)
+
+    module _ (r : d ≡ 0 → ⊥) (out : In d l → ⊥) where
+      -- a dart that is not listed is
+      pub known-new : id d ≡ d
+      known-new = ⊎-elim (λ e. e) (λ t. absurd (out (v .every d h r t))) (eq-or-lt-of-le (ident-le rows steps b d h))
+
+      -- the list leads nowhere but to itself
+      l-closed : ((x : ℕ) → In x l → x < darts rows) → ((x : ℕ) → In x l → x ≡ 0 → ⊥) → (x : ℕ) → In x l → Has rows steps l x
+      l-closed lt real x m s t =
+          ⊎-elim
+          (λ e. inl (eqb-true (image rows s x) 0 e))
+          (λ e.
+          let z = eqb-false (image rows s x) 0 e in
+          let p : Reach rows steps x (image rows s x) = ReflTransGenᴰ·single (record { by = s; listed = t; leads = refl; real = z }) in
+          inr (v .every (image rows s x) (image-below rows b s x) z (subst (λ (i : ℕ). i < d) (ident-same rows steps b y x (image rows s x) (lt x m) p) (v .only x m))))
+          (bool (eqb (image rows s x) 0))
+
+      module _ (norep : NoRep l) (lt : (x : ℕ) → In x l → x < darts rows) (real : (x : ℕ) → In x l → x ≡ 0 → ⊥) where
+        -- what the search from d on may add
+        P : ℕ → Type 0
+        P x = (In x l ⊎ Reach rows steps d x) × (x < darts rows)
+
+        passes : Passes rows steps P
+        unfolding P
+        passes x p s m z = (
+          ⊎-elim
+              (λ q. ⊎-elim (λ e. absurd (z e)) inl (l-closed lt real x q s m))
+              (λ q. inr (ReflTransGenᴰ·tail q (record { by = s; listed = m; leads = refl; real = z })))
+              (p .0),
+          image-below rows b s x,
+        )
+
+        start : State rows steps P (l ++ (d ∷ [])) (length l) (l ++ (d ∷ []))
+        unfolding P
+        start =
+            record {
+              good =
+                  record {
+                    norep = norep-snoc l d norep out;
+                    all = λ x m.
+                        ⊎-elim
+                        (λ q. (inl q, lt x q))
+                        (λ q. let e = List·Memᴰ·eq-of-singleton q in subst P (sym e) (inr ReflTransGenᴰ·refl, h))
+                        (List·Memᴰ·append-cases l m);
+                  };
+              upto = omega (arith, length-append l (d ∷ []));
+              starts = ext-refl (l ++ (d ∷ []));
+              closed = λ i q s m.
+                  rw (List·getD-append l (d ∷ []) 0 i q)
+                  (⊎-elim inl (λ t. inr (Memᴰ·append-left (d ∷ []) t)) (l-closed lt real (getD l i 0) (in-at l i q) s m));
+            }
+
+        abbrev M : List ℕ
+        M = search rows steps (darts rows - length l) (length l) (l ++ (d ∷ []))
+
+        fin : Finished rows steps P (l ++ (d ∷ [])) M
+        unfolding P
+        fin = finished rows steps P passes (l ++ (d ∷ [])) (darts rows) (λ x p. p .1) (darts rows - length l) (length l) (l ++ (d ∷ [])) (omega arith) start
+
+        pub known-more : Known rows steps (d + 1) M
+        unfolding P
+        known-more =
+            record {
+              only = λ x m.
+                  ⊎-elim
+                  (λ q. omega (arith, v .only x q))
+                  (λ q. omega (arith, ident-same rows steps b y d x h q, known-new))
+                  (fin .good .all x m .0);
+              every = λ x x-lt z q.
+                  ⊎-elim
+                  (λ e.
+                  closed-reach rows steps M (fin .closed) (ext-in (fin .starts) (Memᴰ·append-right l (List·Memᴰ·head refl)))
+                  (ident-one rows steps b y d x h x-lt (known-new ∙ sym e)))
+                  (λ t. ext-in (fin .starts) (Memᴰ·append-left (d ∷ []) (v .every x x-lt z t)))
+                  (eq-or-lt-of-le (omega arith));
+            }
+
+        pub more-real : (x : ℕ) → In x M → x ≡ 0 → ⊥
+        unfolding P
+        more-real x m = ⊎-elim (real x) (reach-real rows steps r) (fin .good .all x m .0)
+
+-- ---- the step laws of `cellsFrom`
+
+module _ (id : ℕ → ℕ) (flags : List ℕ) (d f : ℕ) where
+  abbrev rest : List ℕ
+  rest = cellsFrom id flags (d + 1) f
+
+  pub cells-flags : (getD flags d 0 ≡ 0 → ⊥) → cellsFrom id flags d (suc f) ≡ rest
+  unfolding cellsFrom
+  cells-flags e = ap (λ (t : Bool). cond (t && eqb (id d) d) (d ∷ rest) rest) (ne-eqb (getD flags d 0) 0 e)
+
+  pub cells-other : (id d ≡ d → ⊥) → cellsFrom id flags d (suc f) ≡ rest
+  unfolding cellsFrom
+  cells-other e =
+      ap (λ (t : Bool). cond (eqb (getD flags d 0) 0 && t) (d ∷ rest) rest) (ne-eqb (id d) d e)
+      ∙ ap (λ (t : Bool). cond t (d ∷ rest) rest) (and-false (eqb (getD flags d 0) 0))
+
+  pub cells-own : getD flags d 0 ≡ 0 → id d ≡ d → cellsFrom id flags d (suc f) ≡ d ∷ rest
+  unfolding cellsFrom
+  cells-own u e =
+      ap (λ (t : Bool). cond (t && eqb (id d) d) (d ∷ rest) rest) (eq-eqb (getD flags d 0) 0 u)
+      ∙ ap (λ (t : Bool). cond t (d ∷ rest) rest) (eq-eqb (id d) d e)

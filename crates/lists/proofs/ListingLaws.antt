@@ -1,0 +1,196 @@
+-- The loop of `cells`, and that a turn keeps its invariant. Assumes nothing.
+use mathlib.Core.Path.{_≡_, refl, sym, ap, _∙_, subst}
+use mathlib.Core.Bool.{Bool, true, false, cond, _&&_}
+use mathlib.Core.Logic.{_⊎_, inl, inr, ⊎-elim}
+use mathlib.Core.List.{List, [], _∷_, _++_, append-assoc, append-nil, List·Memᴰ·not-nil}
+use Prim.Native.Nat.{ℕ, zero, suc, _+_, _-_, _≤_, _<_}
+use native.Mathlib.Nat.{le-refl, le-trans}
+use native.Mathlib.Numerals.{add-one}
+use native.Mathlib.Omega.{arith}
+use lib.Dec.{eqb, ltb}
+use lib.ListN.{length, getD, take, drop, set, replicate, length-set, length-append, take-append-drop, drop-of-length-le}
+use lib.Seq.{length-take-le, take-suc-set, drop-set-lt, drop-length, take-length}
+use borrow.Author.Tests.{eqb-true, eqb-false, eq-eqb, ne-eqb, lt-ltb, le-ltb}
+use Rattle.lists.specs.CellLists.{cellsFrom, cellsBy, cellList, Put}
+use Rattle.orbits.specs.Idents.{ident}
+use Rattle.betas.specs.Betas.{darts}
+use Rattle.orbits.specs.Loans.{Queue, Grown, Listed, Zero}
+use Rattle.orbits.specs.Calls.{wiped}
+use Rattle.orbits.specs.Search.{In, add, search, Bounded, Symmetric}
+use Rattle.orbits.proofs.Lists.{bool}
+use Rattle.orbits.proofs.SearchLaws.{Added, null, old, new, added, Ext, search-done, search-ext, ext-length}
+use Rattle.orbits.proofs.QueueLaws.{queue-n}
+use Rattle.orbits.proofs.TurnLaws.{drop-more}
+use Rattle.orbits.proofs.ScratchLaws.{zero-split}
+use Rattle.lists.proofs.KnownLaws.{Known, known-starts, known-old, known-same, known-new, known-more, more-real, cells-flags, cells-other, cells-own}
+
+-- ---- `put`
+
+module _ (x : ℕ) (out : List ℕ) (count : ℕ) where
+  pub put-none : Put false x out count out count
+  put-none = record { front = sym (append-nil (take count out)); back = refl; more = le-refl count; one = omega arith }
+
+  pub put-one : count < length out → Put true x out count (set out count x) (count + 1)
+  put-one h =
+      record {
+        front = rw (add-one, take-suc-set out count x h);
+        back = drop-set-lt (count + 1) out count x (omega arith);
+        more = omega arith;
+        one = omega arith;
+      }
+
+-- ---- `grow`: a push and a flood
+
+pub grown-both : (q : List ℕ) (f : ℕ) (l m₁ q₁ : List ℕ) (k : ℕ) (t m₂ q₂ : List ℕ) (r : ℕ) → Grown q f l m₁ q₁ k → Grown q₁ k t m₂ q₂ r → Grown q f t m₂ q₂ r
+grown-both q f l m₁ q₁ k t m₂ q₂ r a b =
+    record {
+      front = b .front;
+      back = b .back ∙ drop-more q₁ q k r (b .more) (a .back);
+      more = le-trans (a .more) (b .more);
+      queue = b .queue;
+    }
+
+-- ---- the loop: the darts before d are passed
+
+pub record Listing (rows steps flags : List ℕ) (marks₀ queue₀ out₀ marks queue out : List ℕ) (found count d : ℕ) : Type 0 where
+  pub marks-n : length marks ≡ length marks₀
+  pub queue-same : length queue ≡ length queue₀
+  pub out-n : length out ≡ length out₀
+  pub some : 0 < d
+  pub upto : d ≤ darts rows
+  pub few : count < d
+  pub held : Queue marks queue found
+  pub known : Known rows steps d (take found queue)
+  pub real : (x : ℕ) → In x (take found queue) → x ≡ 0 → ⊥
+  pub behind : drop found queue ≡ drop found queue₀
+  pub left : take count out ++ cellsFrom (ident rows steps) flags d (darts rows - d) ≡ cellList rows steps flags
+  pub rest : drop count out ≡ drop count out₀
+
+-- what a turn at d gives
+record Turned (rows steps flags : List ℕ) (found d r : ℕ) (l : List ℕ) : Type 0 where
+  known : Known rows steps (d + 1) l
+  real : (x : ℕ) → In x l → x ≡ 0 → ⊥
+  own : cellsFrom (ident rows steps) flags d (suc (darts rows - (d + 1))) ≡ cond (ltb found r && eqb (getD flags d 0) 0) (d ∷ []) [] ++ cellsFrom (ident rows steps) flags (d + 1) (darts rows - (d + 1))
+
+module _ (rows steps flags : List ℕ) (b : Bounded rows) (y : Symmetric rows steps) (marks queue : List ℕ) (found d : ℕ) (r : ℕ) (h : d < darts rows) (some : 0 < d) (n-is : length marks ≡ darts rows) (q : Queue marks queue found) (k : Known rows steps d (take found queue)) (z : (x : ℕ) → In x (take found queue) → x ≡ 0 → ⊥) where
+  l-length : length (take found queue) ≡ found
+  l-length = length-take-le found queue (q .room)
+
+  grew : found < r → cond (true && eqb (getD flags d 0) 0) (d ∷ []) [] ++ cellsFrom (ident rows steps) flags (d + 1) (darts rows - (d + 1)) ≡ cond (ltb found r && eqb (getD flags d 0) 0) (d ∷ []) [] ++ cellsFrom (ident rows steps) flags (d + 1) (darts rows - (d + 1))
+  grew f = ap (λ (t : Bool). cond (t && eqb (getD flags d 0) 0) (d ∷ []) [] ++ cellsFrom (ident rows steps) flags (d + 1) (darts rows - (d + 1))) (sym (lt-ltb found r f))
+
+  turned : (l′ a : List ℕ) → Added (take found queue) d a → length l′ ≡ r → l′ ≡ search rows steps (darts rows - found) found a → Turned rows steps flags found d r l′
+  turned l′ a (null e) w s = absurd (omega arith)
+  turned l′ a (old m) w s =
+      let s′ : l′ ≡ take found queue = s ∙ search-done rows steps (darts rows - found) found (take found queue) (omega (arith, l-length)) in
+      let f : r ≤ found = omega (arith, ap length s′, l-length) in
+      record {
+        known = rw s′ (known-same rows steps b y d (take found queue) h k m);
+        real = rw s′ z;
+        own =
+            cells-other (ident rows steps) flags d (darts rows - (d + 1)) (known-old rows steps b y d (take found queue) h k m)
+            ∙ ap (λ (t : Bool). cond (t && eqb (getD flags d 0) 0) (d ∷ []) [] ++ cellsFrom (ident rows steps) flags (d + 1) (darts rows - (d + 1))) (sym (le-ltb found r f));
+      }
+  turned l′ a (new e o) w s =
+      let s′ : l′ ≡ search rows steps (darts rows - length (take found queue)) (length (take found queue)) (take found queue ++ (d ∷ [])) =
+      s ∙ ap (λ (i : ℕ). search rows steps (darts rows - i) i (take found queue ++ (d ∷ []))) (sym l-length) in
+      let f : found < r =
+      omega (
+        arith,
+        ap length s,
+        ext-length (search-ext rows steps (darts rows - found) found (take found queue ++ (d ∷ []))),
+        length-append (take found queue) (d ∷ []),
+        l-length,
+      ) in
+      let lt : (x : ℕ) → In x (take found queue) → x < darts rows = λ x m. subst (λ (i : ℕ). x < i) n-is (q .below x m) in
+      record {
+        known = rw s′ (known-more rows steps b y d (take found queue) h k e o (q .norep) lt z);
+        real = rw s′ (more-real rows steps b y d (take found queue) h k e o (q .norep) lt z);
+        own =
+            ⊎-elim
+            (λ u.
+            cells-own (ident rows steps) flags d (darts rows - (d + 1)) (eqb-true (getD flags d 0) 0 u) (known-new rows steps b y d (take found queue) h k e o)
+            ∙ ap (λ (t : Bool). cond (true && t) (d ∷ []) [] ++ cellsFrom (ident rows steps) flags (d + 1) (darts rows - (d + 1))) (sym u)
+            ∙ grew f)
+            (λ u.
+            cells-flags (ident rows steps) flags d (darts rows - (d + 1)) (eqb-false (getD flags d 0) 0 u)
+            ∙ ap (λ (t : Bool). cond (true && t) (d ∷ []) [] ++ cellsFrom (ident rows steps) flags (d + 1) (darts rows - (d + 1))) (sym u)
+            ∙ grew f)
+            (bool (eqb (getD flags d 0) 0));
+      }
+
+module _ (rows steps flags marks₀ queue₀ out₀ : List ℕ) (b : Bounded rows) (y : Symmetric rows steps) (n-is : length marks₀ ≡ darts rows) where
+  pub listing-starts : Queue marks₀ queue₀ 0 → Listing rows steps flags marks₀ queue₀ out₀ marks₀ queue₀ out₀ 0 0 1
+  unfolding cellsBy
+  listing-starts q =
+      record {
+        marks-n = refl;
+        queue-same = refl;
+        out-n = refl;
+        some = omega arith;
+        upto = omega (arith, b 0 0);
+        few = omega arith;
+        held = q;
+        known = known-starts rows steps b y;
+        real = λ x m. absurd (List·Memᴰ·not-nil m);
+        behind = refl;
+        left = refl;
+        rest = refl;
+      }
+
+  module _ (marks queue out : List ℕ) (found count d : ℕ) (v : Listing rows steps flags marks₀ queue₀ out₀ marks queue out found count d) where
+    pub listing-turn : (marks′ queue′ out′ : List ℕ) (r c : ℕ) → d < darts rows → length marks′ ≡ length marks → length queue′ ≡ length queue → length out′ ≡ length out → Grown queue found (search rows steps (darts rows - found) found (add (take found queue) d)) marks′ queue′ r → Put (ltb found r && eqb (getD flags d 0) 0) d out count out′ c → Listing rows steps flags marks₀ queue₀ out₀ marks′ queue′ out′ r c (d + 1)
+    listing-turn marks′ queue′ out′ r c h e-m e-q e-o g p =
+        let s : take r queue′ ≡ search rows steps (darts rows - found) found (add (take found queue) d) =
+        g .front in
+        let t : Turned rows steps flags found d r (take r queue′) =
+        turned rows steps flags b y marks queue found d r h (v .some) (v .marks-n ∙ n-is) (v .held) (v .known) (v .real) (take r queue′) (add (take found queue) d) (added (take found queue) d)
+        (length-take-le r queue′ (g .queue .room)) s in
+        let f : darts rows - d ≡ suc (darts rows - (d + 1)) = omega arith in
+        record {
+          marks-n = e-m ∙ v .marks-n;
+          queue-same = e-q ∙ v .queue-same;
+          out-n = e-o ∙ v .out-n;
+          some = omega arith;
+          upto = omega arith;
+          few = omega (arith, v .few, p .one);
+          held = g .queue;
+          known = t .known;
+          real = t .real;
+          behind = g .back ∙ drop-more queue queue₀ found r (g .more) (v .behind);
+          left =
+              ap (λ (x : List ℕ). x ++ cellsFrom (ident rows steps) flags (d + 1) (darts rows - (d + 1))) (p .front)
+              ∙ append-assoc (take count out) (cond (ltb found r && eqb (getD flags d 0) 0) (d ∷ []) []) (cellsFrom (ident rows steps) flags (d + 1) (darts rows - (d + 1)))
+              ∙ ap (λ (x : List ℕ). take count out ++ x) (sym (t .own))
+              ∙ ap (λ (i : ℕ). take count out ++ cellsFrom (ident rows steps) flags d i) (sym f)
+              ∙ v .left;
+          rest = p .back ∙ drop-more out out₀ count c (p .more) (v .rest);
+        }
+
+    pub listing-ends : darts rows ≤ d → count ≤ length out → Listed (cellList rows steps flags) out₀ out count
+    unfolding cellsFrom
+    listing-ends h w =
+        let z : darts rows - d ≡ 0 = omega arith in
+        let e : take count out ≡ cellList rows steps flags =
+        sym (append-nil (take count out)) ∙ ap (λ (i : ℕ). take count out ++ cellsFrom (ident rows steps) flags d i) (sym z) ∙ v .left in
+        let k : count ≡ length (cellList rows steps flags) = sym (length-take-le count out w) ∙ ap length e in
+        record {
+          count = k;
+          places =
+              sym (take-append-drop count out)
+              ∙ ap (λ (x : List ℕ). x ++ drop count out) e
+              ∙ ap (λ (x : List ℕ). cellList rows steps flags ++ x) (v .rest ∙ ap (λ (i : ℕ). drop i out₀) k);
+        }
+
+-- ---- scratch at the end: n zeros where the queue was, and the marks as they were
+
+pub marks-same : (n : ℕ) (marks₀ marks marks′ : List ℕ) → length marks₀ ≡ n → Zero marks₀ → length marks ≡ length marks₀ → marks′ ≡ wiped n marks → marks′ ≡ marks₀
+marks-same n marks₀ marks marks′ n-is z e w =
+    let a : length marks ≤ n = omega arith in
+    let b : length marks₀ ≤ n = omega arith in
+    w
+    ∙ ap (λ (t : List ℕ). replicate n 0 ++ t) (drop-of-length-le marks a ∙ sym (drop-of-length-le marks₀ b))
+    ∙ zero-split marks₀ n z (omega arith)
+
+pub queue-wiped : (n found : ℕ) (queue₀ queue queue′ : List ℕ) → found ≤ n → drop found queue ≡ drop found queue₀ → queue′ ≡ wiped n queue → queue′ ≡ wiped n queue₀
+queue-wiped n found queue₀ queue queue′ h e w = w ∙ ap (λ (t : List ℕ). replicate n 0 ++ t) (drop-more queue queue₀ found n h e)

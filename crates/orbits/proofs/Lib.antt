@@ -1,0 +1,12 @@
+pub mod Lists
+pub mod StepLaws
+pub mod SearchLaws
+pub mod OrbitLaws
+pub mod CgalLaws
+pub mod IdentLaws
+pub mod QueueLaws
+pub mod TurnLaws
+pub mod ScratchLaws
+pub mod CallLaws
+pub mod CellLaws
+pub mod Examples

@@ -1,0 +1,54 @@
+-- `core::cell_core` meets its contract: the orbit in the queue, its least, and the queue wiped. Assumes nothing.
+use mathlib.Core.Path.{_≡_, refl, sym, ap, _∙_}
+use mathlib.Core.List.{List, _++_}
+use Prim.Native.Nat.{ℕ, _≤_}
+use native.Mathlib.Omega.{arith}
+use lib.ListN.{length, replicate}
+use Rattle.orbits.specs.Idents.{least, ident}
+use Rattle.orbits.proofs.OrbitLaws.{orbit-some}
+use Rattle.orbits.proofs.IdentLaws.{cell-is}
+use Rattle.orbits.proofs.TurnLaws.{listed-take, listed-room, listed-drop}
+use Rattle.orbits.proofs.ScratchLaws.{zero-split}
+use borrow.Author.Needs.{needs}
+use Rattle.orbits.proofs.core.cell_core.Statement.{statement}
+use Rattle.orbits.proofs.core.cell_core.Tie as tie
+
+orbit-core-requires : tie.Need-orbit-core-requires
+orbit-core-requires c κs = search needs
+
+least-requires : tie.Need-least-requires
+least-requires c κs =
+    let s = c .before .before .before .before .before .before .before .before .before .before .before .before in
+    let o = c .before .before .before .before .before .orbit-core .ensures .1 in
+    let e = orbit-some (s .args .rows .now) (s .args .steps .now) (s .pre .0 .formed .below) (s .args .d) (s .pre .1) in
+    (omega (arith, o .count, e), listed-room o)
+
+wipe-queue-requires : tie.Need-wipe-queue-requires
+wipe-queue-requires c κs = listed-room (c .before .before .before .before .before .before .before .orbit-core .ensures .1)
+
+same-length : tie.Need-same-length
+same-length c = search needs
+
+same-length-2 : tie.Need-same-length-2
+same-length-2 c = search needs
+
+returns : tie.Need-returns
+returns c =
+    let s = c .before .before .before .before .before .before .before .before .before .before .before .before .before .before .before .before .before in
+    let o = c .before .before .before .before .before .before .before .before .before .before .orbit-core .ensures .1 in
+    let e : c .before .before .before .before .before .before .before .before .before .before .orbit-core .result ≤ length (s .args .queue .now) = omega (arith, listed-room o, c .before .before .before .before .before .before .before .before .before .before .orbit-core .kept .1 .1 .1 .0) in (
+      c .before .before .before .before .before .before .before .before .before .before .orbit-core .ensures .0,
+      c .before .before .wipe-queue .ensures ∙ ap (λ (t : List ℕ). replicate (c .before .before .before .before .before .before .before .before .before .before .orbit-core .result) 0 ++ t) (listed-drop o) ∙ zero-split (s .args .queue .now) _ (s .pre .3) e,
+      cell-is _ _ _ _ _ (c .before .before .before .before .least .ensures ∙ ap least (listed-take o)) (o .count),
+    )
+
+pub cell-core-spec : {M : Type 1} → statement M
+cell-core-spec =
+    tie.close
+    (tie.spec
+    orbit-core-requires
+    least-requires
+    wipe-queue-requires
+    same-length
+    same-length-2
+    returns)

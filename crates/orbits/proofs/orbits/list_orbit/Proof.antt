@@ -1,0 +1,58 @@
+-- `orbits::list_orbit` meets its contract: wiped marks, and the core on the first n of them. Assumes nothing.
+use mathlib.Core.Path.{_≡_, refl, sym, ap, _∙_}
+use Prim.Native.Nat.{ℕ}
+use native.Mathlib.Omega.{arith}
+use lib.ListN.{length, take}
+use Rattle.betas.specs.Betas.{darts}
+use Rattle.orbits.proofs.ScratchLaws.{wiped-n, wiped-zero, wiped-lent}
+use Rattle.orbits.proofs.CallLaws.{orbit-left}
+use borrow.Author.Needs.{needs}
+use Rattle.orbits.proofs.orbits.list_orbit.Statement.{statement}
+use Rattle.orbits.proofs.orbits.list_orbit.Tie as tie
+
+wipe-marks-requires : tie.Need-wipe-marks-requires
+wipe-marks-requires c κs = search needs
+
+slice-relend-prefix-orbit-core : tie.Need-slice-relend-prefix-orbit-core
+slice-relend-prefix-orbit-core c = search needs
+
+slice-aggregate-orbit-core : tie.Need-slice-aggregate-orbit-core
+slice-aggregate-orbit-core c = sym (wiped-n (darts (c .before .before .before .before .before .before .before .before .before .args .rows .now)) (c .before .before .before .before .before .before .before .before .before .args .marks .now) (c .before .before .before .wipe-marks .last .0) (c .before .before .before .wipe-marks .ensures))
+
+orbit-core-requires : tie.Need-orbit-core-requires
+orbit-core-requires c κs =
+    let s = c .before .before .before .before .before .before .before .before .before .before in
+    let w = c .before .before .before .before .wipe-marks in
+    let n : ℕ = darts (s .args .rows .now) in
+    let e = wiped-n n (s .args .marks .now) (w .last .0) (w .ensures) in (
+      record { formed = s .pre .0; marks-n = e; out-n = s .pre .3; are-steps = s .pre .1 },
+      s .pre .4,
+      wiped-zero n (s .args .marks .now) (w .last .0) (w .ensures),
+    )
+
+same-length : tie.Need-same-length
+same-length c = search needs
+
+same-length-2 : tie.Need-same-length-2
+same-length-2 c = search needs
+
+returns : tie.Need-returns
+returns c =
+    let s = c .before .before .before .before .before .before .before .before .before .before .before .before .before .before .before in
+    let w = c .before .before .before .before .before .before .before .before .before .wipe-marks in
+    let o = c .before .before .before .before .orbit-core in
+    let n : ℕ = darts (s .args .rows .now) in
+    orbit-left (s .args .rows .now) (s .args .marks .now) (s .args .output .now) _ _ _ _ _ (o .ensures .1 .count)
+    (wiped-lent n (s .args .marks .now) (w .last .0) (w .ensures) _ (o .ensures .0)) (o .ensures .1 .places)
+
+pub list-orbit-spec : {M : Type 1} → statement M
+list-orbit-spec =
+    tie.close
+    (tie.spec
+    wipe-marks-requires
+    slice-relend-prefix-orbit-core
+    slice-aggregate-orbit-core
+    orbit-core-requires
+    same-length
+    same-length-2
+    returns)

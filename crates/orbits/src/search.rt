@@ -1,0 +1,84 @@
+// The search, breadth first, over any list of steps. Ports the loop of dim3/orbits.rs: the lent list is its own queue, marks stand for the hash set.
+use betas::betas::beta_at;
+ghost use mathlib.Core.Path.{_≡_};
+ghost use Prim.Native.Nat.{ℕ, _-_, _<_, _≤_};
+ghost use lib.ListN.{length, take};
+ghost use Rattle.betas.specs.Betas.{darts};
+ghost use Rattle.betas.specs.Maps.{WellFormed};
+ghost use Rattle.orbits.specs.Steps.{image as imageOf, IsStep};
+ghost use Rattle.orbits.specs.Search.{add, visit as visitOf, search};
+ghost use Rattle.orbits.specs.Loans.{Queue, Grown, Fit};
+
+// Where the step c leads from d.
+pub fn image(rows: &[u32], c: u8, d: u32) -> u32
+    requires { ⌜ WellFormed (now rows) × IsStep c × (d < darts (now rows)) ⌝ }
+    ensures { λ r. ⌜ r ≡ imageOf (now (rows .entry)) c d ⌝ }
+{
+    let s = c as u32;
+    if s < 16 {
+        return beta_at(rows, s, d);
+    }
+    let m = beta_at(rows, s % 16, d);
+    beta_at(rows, s / 16, m)
+}
+
+// Puts x behind the k darts of the queue, where x is neither null nor there, and returns how many there are now.
+pub fn push(marks: &mut [u8], out: &mut [u32], k: usize, x: u32) -> usize
+    requires { ⌜ Queue (now marks) (now out) k × (x < length (now marks)) × (length (now marks) ≤ length (now out)) ⌝ }
+    ensures { λ r. ⌜ Grown (now (out .entry)) k (add (take k (now (out .entry))) x) (now (marks .exit)) (now (out .exit)) r ⌝ }
+{
+    if x == 0 {
+        return k;
+    }
+    let at = x as usize;
+    if marks[at] != 0 {
+        return k;
+    }
+    marks[at] = 1;
+    out[k] = x;
+    k + 1
+}
+
+// Puts what the steps lead to from d behind the queue.
+pub fn visit(
+    rows: &[u32],
+    steps: &[u8],
+    marks: &mut [u8],
+    out: &mut [u32],
+    count: usize,
+    d: u32,
+) -> usize
+    requires { ⌜ Fit (now rows) (now steps) (now marks) (now out) × Queue (now marks) (now out) count × (d < darts (now rows)) ⌝ }
+    ensures { λ r. ⌜ Grown (now (out .entry)) count (visitOf (now (rows .entry)) (now (steps .entry)) d (take count (now (out .entry)))) (now (marks .exit)) (now (out .exit)) r ⌝ }
+{
+    let mut k = count;
+    let mut j = 0;
+    while j < steps.len() {
+        let x = image(rows, steps[j], d);
+        k = push(marks, out, k, x);
+        j += 1;
+    }
+    k
+}
+
+// Visits the darts of the queue from the place `from` on, those that it finds too, and returns how many the queue then has.
+pub fn flood(
+    rows: &[u32],
+    steps: &[u8],
+    marks: &mut [u8],
+    out: &mut [u32],
+    from: usize,
+    seeds: usize,
+) -> usize
+    requires { ⌜ Fit (now rows) (now steps) (now marks) (now out) × Queue (now marks) (now out) seeds × (from ≤ seeds) ⌝ }
+    ensures { λ r. ⌜ Grown (now (out .entry)) seeds (search (now (rows .entry)) (now (steps .entry)) (darts (now (rows .entry)) - from) from (take seeds (now (out .entry)))) (now (marks .exit)) (now (out .exit)) r ⌝ }
+{
+    let mut k = from;
+    let mut count = seeds;
+    while k < count {
+        let e = out[k];
+        count = visit(rows, steps, marks, out, count, e);
+        k += 1;
+    }
+    count
+}

@@ -1,0 +1,42 @@
+-- `settle::settle` meets its contract. Assumes nothing.
+use native.Mathlib.Omega.{arith}
+use mathlib.Core.Path.{_∙_}
+use Rattle.sews.proofs.EntryLaws.{written-put}
+use Rattle.sews.proofs.SewnLaws.{settles-tight, settles-done}
+use borrow.Author.Needs.{needs}
+use Rattle.sews.proofs.settle.settle.Statement.{statement}
+use Rattle.sews.proofs.settle.settle.Tie as tie
+
+count-requires : tie.Need-count-requires
+count-requires c κs = search needs
+
+room-requires : tie.Need-room-requires
+room-requires c κs = search needs
+
+same-length : tie.Need-same-length
+same-length c = search needs
+
+returns : tie.Need-returns
+returns c = settles-tight _ _ _ _ (c .before .before .before .count .ensures .0) (omega (arith, c .if1 .taken, c .before .room .ensures))
+
+put-items-requires : tie.Need-put-items-requires
+put-items-requires c κs = omega (arith, c .before .before .before .before .count .ensures .0, c .before .if1 .left, c .before .before .room .ensures)
+
+same-length-2 : tie.Need-same-length-2
+same-length-2 c = search needs
+
+returns-2 : tie.Need-returns-2
+returns-2 c =
+    settles-done _ _ _ _ (c .before .before .before .before .before .before .before .count .ensures .0) _ (omega (arith, c .before .before .before .before .if1 .left, c .before .before .before .before .before .room .ensures)) (c .before .before .put-items .ensures .1 ∙ written-put _ _)
+
+pub settle-spec : {M : Type 1} → statement M
+settle-spec =
+    tie.close
+    (tie.spec
+    count-requires
+    room-requires
+    same-length
+    returns
+    put-items-requires
+    same-length-2
+    returns-2)

@@ -1,0 +1,80 @@
+-- `two::two_sew_on` meets its contract: the geometry test, then the link of the two sides. Assumes nothing.
+use native.Mathlib.Omega.{arith}
+use mathlib.Core.Path.{sym, _∙_}
+use Rattle.sews.proofs.SideLaws.{scratch-same, near-below, end-below, slot-lent}
+use Rattle.sews.proofs.EndLaws.{two-sew-bad, two-sew-good}
+use borrow.Author.Needs.{needs}
+use Rattle.sews.proofs.two.two_sew_on.Statement.{statement}
+use Rattle.sews.proofs.two.two_sew_on.Tie as tie
+
+side-at-requires : tie.Need-side-at-requires
+side-at-requires c κs = (c .before .before .before .before .before .before .before .before .before .pre .0 .0, c .before .before .before .before .before .before .before .before .before .pre .0 .1 .below, c .before .before .before .before .before .before .before .before .before .pre .0 .3)
+
+side-at-requires-2 : tie.Need-side-at-requires-2
+side-at-requires-2 c κs =
+    (c .before .before .before .before .before .before .before .before .before .before .before .before .before .before .before .before .before .pre .0 .0, c .before .before .before .before .before .before .before .before .before .before .before .before .before .before .before .before .before .pre .0 .2 .below, scratch-same _ _ _ _ _ (c .before .before .before .before .before .before .before .before .before .before .before .before .before .before .before .before .before .pre .0 .3) (c .before .before .before .before .before .before .before .side-at .ensures .1 .0) (c .before .before .before .before .before .before .before .side-at .ensures .1 .1))
+
+bad-geometry-requires : tie.Need-bad-geometry-requires
+bad-geometry-requires c κs =
+    let w = c .before .before .before .before .before .before .before .before .before .before .before .before .before .before .before .before .before .before .before .before .before .before .pre .0 .0 in
+    let v = c .before .before .before .before .before .before .before .before .before .before .before .before .before .before .before .before .before .before .before .before .before .before .pre .1 .0 in
+    let x = c .before .before .before .before .before .before .before .before .before .before .before .before .before .before .before .before .before .before .before .before .before .before .pre .1 .1 in
+    let hl = c .before .before .before .before .before .before .before .before .before .before .before .before .before .before .before .before .before .before .before .before .before .before .pre .0 .1 .below in
+    let hr = c .before .before .before .before .before .before .before .before .before .before .before .before .before .before .before .before .before .before .before .before .before .before .pre .0 .2 .below in (
+      (slot-lent _ _ (c .before .before .before .before .before .before .before .before .before .before .before .before .before .before .before .before .before .before .before .before .before .before .args .vertices .now) (c .before .before .before .before .before .before .before .before .before .before .before .before .before .before .before .before .before .before .before .before .before .before .args .coordinates .now) (near-below _ _ _ w hl (c .before .before .before .before .before .before .before .before .before .before .before .before .side-at .ensures .0)) v x, slot-lent _ _ (c .before .before .before .before .before .before .before .before .before .before .before .before .before .before .before .before .before .before .before .before .before .before .args .vertices .now) (c .before .before .before .before .before .before .before .before .before .before .before .before .before .before .before .before .before .before .before .before .before .before .args .coordinates .now) (end-below _ _ _ w hr (c .before .before .before .before .side-at2 .ensures .0)) v x),
+      (slot-lent _ _ (c .before .before .before .before .before .before .before .before .before .before .before .before .before .before .before .before .before .before .before .before .before .before .args .vertices .now) (c .before .before .before .before .before .before .before .before .before .before .before .before .before .before .before .before .before .before .before .before .before .before .args .coordinates .now) (end-below _ _ _ w hl (c .before .before .before .before .before .before .before .before .before .before .before .before .side-at .ensures .0)) v x, slot-lent _ _ (c .before .before .before .before .before .before .before .before .before .before .before .before .before .before .before .before .before .before .before .before .before .before .args .vertices .now) (c .before .before .before .before .before .before .before .before .before .before .before .before .before .before .before .before .before .before .before .before .before .before .args .coordinates .now) (near-below _ _ _ w hr (c .before .before .before .before .side-at2 .ensures .0)) v x),
+    )
+
+same-length : tie.Need-same-length
+same-length c = search needs
+
+same-length-2 : tie.Need-same-length-2
+same-length-2 c = search needs
+
+same-length-3 : tie.Need-same-length-3
+same-length-3 c = search needs
+
+returns : tie.Need-returns
+returns c = (
+  two-sew-bad _ _ _ _ _ _ _ _ (c .before .before .before .before .before .before .before .before .before .before .before .before .before .before .side-at .ensures .0) (c .before .before .before .before .before .before .side-at2 .ensures .0) _ (c .before .bad-geometry .ensures) (c .if1 .taken),
+  (c .before .before .before .before .before .before .side-at2 .ensures .1 .0 ∙ c .before .before .before .before .before .before .before .before .before .before .before .before .before .before .side-at .ensures .1 .0, c .before .before .before .before .before .before .side-at2 .ensures .1 .1 ∙ c .before .before .before .before .before .before .before .before .before .before .before .before .before .before .side-at .ensures .1 .1),
+)
+
+link-sides-requires : tie.Need-link-sides-requires
+link-sides-requires c κs = (c .before .before .before .before .before .before .before .before .before .before .before .before .before .before .before .before .before .before .before .before .before .before .before .before .before .before .pre .0 .0, c .before .before .before .before .before .before .before .before .before .before .before .before .before .before .before .before .before .before .before .before .before .before .before .before .before .before .pre .0 .1, c .before .before .before .before .before .before .before .before .before .before .before .before .before .before .before .before .before .before .before .before .before .before .before .before .before .before .pre .0 .2)
+
+same-length-4 : tie.Need-same-length-4
+same-length-4 c = search needs
+
+same-length-5 : tie.Need-same-length-5
+same-length-5 c = search needs
+
+same-length-6 : tie.Need-same-length-6
+same-length-6 c = search needs
+
+same-length-7 : tie.Need-same-length-7
+same-length-7 c = search needs
+
+returns-2 : tie.Need-returns-2
+returns-2 c = (
+  two-sew-good _ _ _ _ _ _ _ _ (c .before .before .before .before .before .before .before .before .before .before .before .before .before .before .before .before .before .before .before .before .before .side-at .ensures .0) (c .before .before .before .before .before .before .before .before .before .before .before .before .before .side-at2 .ensures .0) _ (c .before .before .before .before .before .before .before .before .bad-geometry .ensures) (c .before .before .before .before .before .before .before .if1 .left) _ _ _ (c .before .before .before .before .link-sides .ensures),
+  (c .before .before .before .before .before .before .before .before .before .before .before .before .before .side-at2 .ensures .1 .0 ∙ c .before .before .before .before .before .before .before .before .before .before .before .before .before .before .before .before .before .before .before .before .before .side-at .ensures .1 .0, c .before .before .before .before .before .before .before .before .before .before .before .before .before .side-at2 .ensures .1 .1 ∙ c .before .before .before .before .before .before .before .before .before .before .before .before .before .before .before .before .before .before .before .before .before .side-at .ensures .1 .1),
+)
+
+pub two-sew-on-spec : {M : Type 1} → statement M
+two-sew-on-spec =
+    tie.close
+    (tie.spec
+    side-at-requires
+    side-at-requires-2
+    bad-geometry-requires
+    same-length
+    same-length-2
+    same-length-3
+    returns
+    link-sides-requires
+    same-length-4
+    same-length-5
+    same-length-6
+    same-length-7
+    returns-2)

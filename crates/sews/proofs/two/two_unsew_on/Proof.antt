@@ -1,0 +1,128 @@
+-- `two::two_unsew_on` meets its contract: each return is one of the ways in which a 2-unsew ends. Assumes nothing.
+use native.Mathlib.Omega.{arith}
+use mathlib.Core.Path.{sym, _∙_, _≡_, refl}
+use borrow.Author.Tests.{not-true, not-false}
+use Rattle.betas.specs.Betas.{beta}
+use Rattle.sews.proofs.OneLaws.{asks-link, asks-unlink}
+use Rattle.sews.proofs.OneRows.{core-unlinked}
+use Rattle.sews.proofs.SideLaws.{scratch-same, scratch-on}
+use Rattle.sews.proofs.EndLaws.{two-unsew-refused, two-unsew-dart, two-unsew-tight, two-unsew-done}
+use borrow.Author.Needs.{needs}
+use Rattle.sews.proofs.two.two_unsew_on.Statement.{statement}
+use Rattle.sews.proofs.two.two_unsew_on.Tie as tie
+
+-- the dart that was answered
+answered : (c : tie.After-dart-of) → c .dart-of .result ≡ beta (c .before .before .before .before .before .before .before .before .before .before .before .args .rows .now) 2 (c .before .before .before .before .before .before .before .before .before .before .before .args .ld)
+answered c =
+    two-unsew-dart _ (c .before .before .before .before .before .before .before .before .before .before .before .args .plan .now) _ _ _ (c .before .before .before .before .before .unlink-core .ensures) (c .before .before .before .before .before .before .before .before .before .before .before .pre .0) (sym (c .before .before .is-done .ensures) ∙ not-false _ (c .before .if1 .left)) _
+    (c .dart-of .ensures)
+
+unlink-core-requires : tie.Need-unlink-core-requires
+unlink-core-requires c κs = asks-unlink _ 2 _ (c .before .before .before .before .before .pre .0) (omega arith) (omega arith) (c .before .before .before .before .before .pre .1 .below)
+
+is-done-requires : tie.Need-is-done-requires
+is-done-requires c κs = search needs
+
+same-length : tie.Need-same-length
+same-length c = search needs
+
+returns : tie.Need-returns
+returns c =
+    (two-unsew-refused _ _ _ _ _ (c .before .before .before .before .unlink-core .ensures) (sym (c .before .is-done .ensures) ∙ not-true _ (c .if1 .taken)), (refl, refl))
+
+dart-of-requires : tie.Need-dart-of-requires
+dart-of-requires c κs = search needs
+
+side-at-requires : tie.Need-side-at-requires
+side-at-requires c κs = (
+  core-unlinked _ 2 _ _ _ (c .before .before .before .before .before .before .before .before .before .before .before .before .before .before .pre .0) (omega arith) (omega arith) (c .before .before .before .before .before .before .before .before .unlink-core .ensures),
+  omega (arith, c .before .before .before .before .before .before .before .before .before .before .before .before .before .before .pre .1 .below, c .before .before .before .before .before .before .before .before .unlink-core .kept .0),
+  scratch-on (c .before .before .before .before .before .before .before .before .before .before .before .before .before .before .args .rows .now) (c .before .before .before .before .before .before .before .before .unlink-core .last .0) _ _ (c .before .before .before .before .before .before .before .before .unlink-core .kept .0) (c .before .before .before .before .before .before .before .before .before .before .before .before .before .before .pre .2),
+)
+
+side-at-requires-2 : tie.Need-side-at-requires-2
+side-at-requires-2 c κs = (
+  core-unlinked _ 2 _ _ _ (c .before .before .before .before .before .before .before .before .before .before .before .before .before .before .before .before .before .before .before .before .before .before .pre .0) (omega arith) (omega arith) (c .before .before .before .before .before .before .before .before .before .before .before .before .before .before .before .before .unlink-core .ensures),
+  omega (arith, answered (c .before .before .before .before .before .before .before .before .before .before .before), c .before .before .before .before .before .before .before .before .before .before .before .before .before .before .before .before .before .before .before .before .before .before .pre .0 .below 2 (c .before .before .before .before .before .before .before .before .before .before .before .before .before .before .before .before .before .before .before .before .before .before .args .ld), c .before .before .before .before .before .before .before .before .before .before .before .before .before .before .before .before .unlink-core .kept .0),
+  scratch-same _ _ _ _ _ (scratch-on (c .before .before .before .before .before .before .before .before .before .before .before .before .before .before .before .before .before .before .before .before .before .before .args .rows .now) (c .before .before .before .before .before .before .before .before .before .before .before .before .before .before .before .before .unlink-core .last .0) _ _ (c .before .before .before .before .before .before .before .before .before .before .before .before .before .before .before .before .unlink-core .kept .0) (c .before .before .before .before .before .before .before .before .before .before .before .before .before .before .before .before .before .before .before .before .before .before .pre .2)) (c .before .before .before .before .before .before .before .side-at .ensures .1 .0) (c .before .before .before .before .before .before .before .side-at .ensures .1 .1),
+)
+
+two-items-requires : tie.Need-two-items-requires
+two-items-requires c κs = search needs
+
+settle-requires : tie.Need-settle-requires
+settle-requires c κs = search needs
+
+is-done-requires-2 : tie.Need-is-done-requires-2
+is-done-requires-2 c κs = search needs
+
+link-core-requires : tie.Need-link-core-requires
+link-core-requires c κs =
+    asks-link _ 2 _ _ (core-unlinked _ 2 _ _ _ (c .before .before .before .before .before .before .before .before .before .before .before .before .before .before .before .before .before .before .before .before .before .before .before .before .before .before .before .before .before .before .before .before .before .before .before .pre .0) (omega arith) (omega arith) (c .before .before .before .before .before .before .before .before .before .before .before .before .before .before .before .before .before .before .before .before .before .before .before .before .before .before .before .before .before .unlink-core .ensures)) (omega arith) (omega arith)
+    (omega (arith, c .before .before .before .before .before .before .before .before .before .before .before .before .before .before .before .before .before .before .before .before .before .before .before .before .before .before .before .before .before .before .before .before .before .before .before .pre .1 .below, c .before .before .before .before .before .before .before .before .before .before .before .before .before .before .before .before .before .before .before .before .before .before .before .before .before .before .before .before .before .unlink-core .kept .0))
+    (omega (arith, answered (c .before .before .before .before .before .before .before .before .before .before .before .before .before .before .before .before .before .before .before .before .before .before .before .before), c .before .before .before .before .before .before .before .before .before .before .before .before .before .before .before .before .before .before .before .before .before .before .before .before .before .before .before .before .before .before .before .before .before .before .before .pre .0 .below 2 (c .before .before .before .before .before .before .before .before .before .before .before .before .before .before .before .before .before .before .before .before .before .before .before .before .before .before .before .before .before .before .before .before .before .before .before .args .ld), c .before .before .before .before .before .before .before .before .before .before .before .before .before .before .before .before .before .before .before .before .before .before .before .before .before .before .before .before .before .unlink-core .kept .0))
+
+same-length-2 : tie.Need-same-length-2
+same-length-2 c = c .before .before .link-core .kept .0 ∙ c .before .before .before .before .before .before .before .before .before .before .before .before .before .before .before .before .before .before .before .before .before .before .before .before .before .before .before .before .before .before .before .before .unlink-core .kept .0
+
+same-length-3 : tie.Need-same-length-3
+same-length-3 c = search needs
+
+same-length-4 : tie.Need-same-length-4
+same-length-4 c = search needs
+
+same-length-5 : tie.Need-same-length-5
+same-length-5 c = search needs
+
+returns-2 : tie.Need-returns-2
+returns-2 c = (
+  two-unsew-tight _ _ _ _ _ (c .before .before .before .before .before .before .before .before .before .before .before .before .before .before .before .before .before .before .before .before .before .before .before .before .before .before .before .before .before .before .before .before .unlink-core .ensures) (c .before .before .before .before .before .before .before .before .before .before .before .before .before .before .before .before .before .before .before .before .before .before .before .before .before .before .before .before .before .before .before .before .before .before .before .before .before .before .pre .0) (sym (c .before .before .before .before .before .before .before .before .before .before .before .before .before .before .before .before .before .before .before .before .before .before .before .before .before .before .before .before .before .is-done .ensures) ∙ not-false _ (c .before .before .before .before .before .before .before .before .before .before .before .before .before .before .before .before .before .before .before .before .before .before .before .before .before .before .before .before .if1 .left)) _ (c .before .before .before .before .before .before .before .before .before .before .before .before .before .before .before .before .before .before .before .before .before .before .before .before .before .before .before .dart-of .ensures) _ _
+      (c .before .before .before .before .before .before .before .before .before .before .before .before .before .before .before .before .before .before .before .before .before .before .before .side-at .ensures .0) (c .before .before .before .before .before .before .before .before .before .before .before .before .before .before .before .side-at2 .ensures .0) _ (c .before .before .before .before .before .before .before .before .before .two-items .ensures) _ _ (c .before .before .before .before .before .before .before .before .settle .ensures) _ _ (c .before .before .link-core .ensures)
+      (sym (c .before .before .before .before .before .is-done2 .ensures) ∙ not-true _ (c .before .before .before .before .if2 .taken)),
+  (c .before .before .before .before .before .before .before .before .before .before .before .before .before .before .before .side-at2 .ensures .1 .0 ∙ c .before .before .before .before .before .before .before .before .before .before .before .before .before .before .before .before .before .before .before .before .before .before .before .side-at .ensures .1 .0, c .before .before .before .before .before .before .before .before .before .before .before .before .before .before .before .side-at2 .ensures .1 .1 ∙ c .before .before .before .before .before .before .before .before .before .before .before .before .before .before .before .before .before .before .before .before .before .before .before .side-at .ensures .1 .1),
+)
+
+same-length-6 : tie.Need-same-length-6
+same-length-6 c = c .before .before .before .before .before .before .before .before .before .before .before .before .before .before .before .before .before .before .before .before .before .before .before .before .before .before .before .before .unlink-core .kept .0
+
+same-length-7 : tie.Need-same-length-7
+same-length-7 c = search needs
+
+same-length-8 : tie.Need-same-length-8
+same-length-8 c = search needs
+
+same-length-9 : tie.Need-same-length-9
+same-length-9 c = search needs
+
+returns-3 : tie.Need-returns-3
+returns-3 c = (
+  two-unsew-done _ _ _ _ _ (c .before .before .before .before .before .before .before .before .before .before .before .before .before .before .before .before .before .before .before .before .before .before .before .before .before .before .before .before .unlink-core .ensures) (c .before .before .before .before .before .before .before .before .before .before .before .before .before .before .before .before .before .before .before .before .before .before .before .before .before .before .before .before .before .before .before .before .before .before .pre .0) (sym (c .before .before .before .before .before .before .before .before .before .before .before .before .before .before .before .before .before .before .before .before .before .before .before .before .before .is-done .ensures) ∙ not-false _ (c .before .before .before .before .before .before .before .before .before .before .before .before .before .before .before .before .before .before .before .before .before .before .before .before .if1 .left)) _ (c .before .before .before .before .before .before .before .before .before .before .before .before .before .before .before .before .before .before .before .before .before .before .before .dart-of .ensures) _ _
+      (c .before .before .before .before .before .before .before .before .before .before .before .before .before .before .before .before .before .before .before .side-at .ensures .0) (c .before .before .before .before .before .before .before .before .before .before .before .side-at2 .ensures .0) _ (c .before .before .before .before .before .two-items .ensures) _ _ (c .before .before .before .before .settle .ensures) (sym (c .before .is-done2 .ensures) ∙ not-false _ (c .if2 .left)),
+  (c .before .before .before .before .before .before .before .before .before .before .before .side-at2 .ensures .1 .0 ∙ c .before .before .before .before .before .before .before .before .before .before .before .before .before .before .before .before .before .before .before .side-at .ensures .1 .0, c .before .before .before .before .before .before .before .before .before .before .before .side-at2 .ensures .1 .1 ∙ c .before .before .before .before .before .before .before .before .before .before .before .before .before .before .before .before .before .before .before .side-at .ensures .1 .1),
+)
+
+pub two-unsew-on-spec : {M : Type 1} → statement M
+two-unsew-on-spec =
+    tie.close
+    (tie.spec
+    unlink-core-requires
+    is-done-requires
+    same-length
+    returns
+    dart-of-requires
+    side-at-requires
+    side-at-requires-2
+    two-items-requires
+    settle-requires
+    is-done-requires-2
+    link-core-requires
+    same-length-2
+    same-length-3
+    same-length-4
+    same-length-5
+    returns-2
+    same-length-6
+    same-length-7
+    same-length-8
+    same-length-9
+    returns-3)

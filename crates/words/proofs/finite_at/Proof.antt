@@ -1,0 +1,19 @@
+-- `finite_at` meets its contract: what it tests is that the pattern is finite. Assumes nothing.
+use mathlib.Core.Path.{ap, sym, _∙_}
+use Prim.Native.Nat.{ℕ, _%_}
+use lib.Dec.{ltb}
+use Rattle.words.specs.Words.{coordinateAt}
+use Rattle.words.proofs.Patterns.{finite-test}
+use borrow.Author.Needs.{needs}
+use Rattle.words.proofs.finite_at.Statement.{statement}
+use Rattle.words.proofs.finite_at.Tie as tie
+
+long-at-requires : tie.Need-long-at-requires
+long-at-requires c κs = search needs
+
+returns : tie.Need-returns
+unfolding coordinateAt
+returns c = ap (λ (n : ℕ). ltb (n % 0x8000_0000_0000_0000) 0x7ff0_0000_0000_0000) (c .long-at .ensures) ∙ finite-test _
+
+pub finite-at-spec : {M : Type 1} → statement M
+finite-at-spec = tie.close (tie.spec long-at-requires returns)

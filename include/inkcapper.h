@@ -1,0 +1,300 @@
+/*
+ * Inkcapper: the dart and beta part of a 3-map, proved. C99.
+ *
+ * THE MAP. Rows are lent u32 numbers: beta 0, 1, 2, 3 of dart 0, then of dart 1, and so on. n is the
+ * number of darts, the null dart 0 counted; 1 <= n <= 1,048,576. A map is well-formed if every image is
+ * below n; row 0 is all 0; a non-null beta 1 image has beta 0 leading back, and the reverse; beta 2 and
+ * beta 3 images, where non-null, lead back and are never the dart itself. Beta 1 may fix a dart.
+ *
+ * ANSWERS. Every function returns one of the numbers below and always writes three values, 0 where
+ * absent. When done, values[0] is the dart or yes/no answered (0 where none), values[1] the count written
+ * (darts for orbits, lists and the reader, entries for plans; 0 where none) and values[2] is 0. Refusals
+ * are tested in the order of their numbers: 1 to 5, then 6 to 10 as the walk meets them, then 11.
+ *
+ * WHAT IS LEFT. After any refusal rows, vertices, plan and output are unchanged. Scratch (marks and
+ * queue) is unchanged after 1 to 5; otherwise, after success too, its first n places are 0 and the rest
+ * unchanged. Output and plan beyond the count are unchanged.
+ *
+ * THE CALLER'S DUTIES. Everything else is tested by the call; these three it cannot test.
+ *   Lengths: a slice is a pointer and a length in elements (not bytes), and that many elements can be
+ *     read, or read and written where the pointer is not const. An empty slice has a pointer that is not
+ *     null all the same. values points to three u64.
+ *   Alignment: a pointer is aligned for what it points to: 4 bytes for uint32_t, 8 for double and
+ *     uint64_t.
+ *   No overlap: what a call may write overlaps nothing else that it is lent, values included, and no
+ *     other thread touches it meanwhile.
+ * A call keeps no pointer after it returns, allocates nothing and has no state of its own.
+ *
+ * LOANS. Sizes are least sizes; more is allowed and left alone.
+ *   1 marks          n bytes      scratch
+ *   2 queue          n u32        scratch
+ *   3 output         n u32        where orbits and lists are written
+ *   4 flags          n bytes      non-zero means unused
+ *   5 vertex marks   n bytes      non-zero means that the dart's slot holds a point
+ *   6 coordinates    3n doubles   x, y, z of each slot
+ *   7 rows           4n u32       for the reader alone
+ *
+ * PLAN. What a sew or unsew asks of the caller's own stores, in order, as entries of four u32: a code,
+ * then for a merge out, left in, right in, for a split left out, right out, in. A remainder of the lent
+ * plan beyond whole entries is never touched.
+ */
+#ifndef INKCAPPER_H
+#define INKCAPPER_H
+
+#include <stddef.h>
+#include <stdint.h>
+
+#ifdef __cplusplus
+extern "C" {
+#endif
+
+/* What a call returns; the comment gives values[0], values[1], values[2]. */
+enum inkcapper_number {
+    INKCAPPER_DONE = 0,                /* dart or yes/no, count written */
+    INKCAPPER_BAD_SIZE = 1,            /* length: row length is 0, no multiple of 4, or n too large */
+    INKCAPPER_SHORT_LOAN = 2,          /* which loan: one other than the plan is below its size */
+    INKCAPPER_NOT_A_MAP = 3,           /* beta, dart: least dart, then least beta, whose image breaks a rule */
+    INKCAPPER_BAD_DART = 4,            /* first bad dart argument, 1 or 2: dart >= n, or 0 where a real one is asked for */
+    INKCAPPER_BAD_BETA = 5,            /* value: beta number above 3, alone or first in a list */
+    INKCAPPER_NON_FREE_BASE = 6,       /* i, l, r: beta i of l is not null */
+    INKCAPPER_NON_FREE_IMAGE = 7,      /* i, l, r: beta i of r is not null, or l = r under beta 2 or 3 */
+    INKCAPPER_ALREADY_FREE = 8,        /* i, d: beta i of d is null */
+    INKCAPPER_ASYMMETRICAL_FACES = 9,  /* ld, rd: the two faces do not go together */
+    INKCAPPER_BAD_GEOMETRY = 10,       /* 2, ld, rd: the two edges do not point against each other */
+    INKCAPPER_PLAN_ROOM = 11,          /* entries needed: the finished plan has more entries than fit */
+    INKCAPPER_BAD_IMAGE = 12           /* header word 0 to 6, or 7 for flags, 8 for vertices */
+};
+
+/* The loans as INKCAPPER_SHORT_LOAN names them. */
+enum inkcapper_loan {
+    INKCAPPER_MARKS = 1,
+    INKCAPPER_QUEUE = 2,
+    INKCAPPER_OUTPUT = 3,
+    INKCAPPER_FLAGS = 4,
+    INKCAPPER_VERTEX_MARKS = 5,
+    INKCAPPER_COORDINATES = 6,
+    INKCAPPER_ROWS = 7
+};
+
+/* The codes of plan entries. */
+enum inkcapper_entry {
+    INKCAPPER_VERTEX_MERGE = 1,
+    INKCAPPER_EDGE_MERGE = 2,
+    INKCAPPER_VERTEX_SPLIT = 11,
+    INKCAPPER_EDGE_SPLIT = 12,
+    INKCAPPER_FACE_SPLIT = 13
+};
+
+/* The most darts that a map may have, the null dart counted. */
+#define INKCAPPER_MOST_DARTS 1048576
+
+/* ---- Reads: no map test, dart 0 allowed. Refusals 1, 4, 5. ---- */
+
+/* Answers the image of dart d under beta i. */
+uint32_t inkcapper_beta(const uint32_t *rows, size_t rows_len, uint32_t i, uint32_t d, uint64_t values[3]);
+
+/* Answers 1 if dart d has no image under beta i, else 0. */
+uint32_t inkcapper_is_i_free(const uint32_t *rows, size_t rows_len, uint32_t i, uint32_t d, uint64_t values[3]);
+
+/* Answers 1 if dart d has no image under any beta, else 0. */
+uint32_t inkcapper_is_free(const uint32_t *rows, size_t rows_len, uint32_t d, uint64_t values[3]);
+
+/* ---- Links: real darts. Refusals 1, 3, 4, 6, 7, and 9 for the 3-link. ---- */
+
+/* Makes rd the beta 1 image of ld and ld the beta 0 image of rd; refuses 6 (1, ld, rd) if ld has a beta 1
+ * image, else 7 (0, ld, rd) if rd has a beta 0 image. */
+uint32_t inkcapper_one_link(uint32_t *rows, size_t rows_len, uint32_t ld, uint32_t rd, uint64_t values[3]);
+
+/* Makes ld and rd each other's beta 2 image; refuses 6 (2, ld, rd) if ld has one, else 7 (2, ld, rd) if rd
+ * has one or is ld. */
+uint32_t inkcapper_two_link(uint32_t *rows, size_t rows_len, uint32_t ld, uint32_t rd, uint64_t values[3]);
+
+/* Makes the darts of two faces each other's beta 3 images: ld with rd, then forward from ld by beta 1 and
+ * from rd by beta 0 until back at ld or at an end, and from an end the other way too; refuses 6 or 7 with
+ * (3, l, r) at a pair that is not free, and 9 (ld, rd) where one side ends before the other. */
+uint32_t inkcapper_three_link(uint32_t *rows, size_t rows_len, uint32_t ld, uint32_t rd, uint64_t values[3]);
+
+/* ---- Unlinks: a real dart; each answers rd, the image taken away. Refusals 1, 3, 4, 8, and 9 for the 3-unlink. ---- */
+
+/* Takes the beta 1 image of ld away, and with it the beta 0 image of that dart. */
+uint32_t inkcapper_one_unlink(uint32_t *rows, size_t rows_len, uint32_t ld, uint64_t values[3]);
+
+/* Takes the beta 2 image of ld away, and with it that dart's own. */
+uint32_t inkcapper_two_unlink(uint32_t *rows, size_t rows_len, uint32_t ld, uint64_t values[3]);
+
+/* Takes the beta 3 images of the face of ld away, walking as the 3-link does; refuses 9 (ld, rd) where a
+ * left dart is not beta 3 of its right one. */
+uint32_t inkcapper_three_unlink(uint32_t *rows, size_t rows_len, uint32_t ld, uint64_t values[3]);
+
+/* ---- Sews and unsews: real darts; links and unlinks with a plan. Scratch: marks and queue. ---- */
+
+/* 1-links ld to rd and, if both have beta 3, beta 3 of rd to beta 3 of ld; plans the vertex merge of the
+ * cells that stood at the new joint. */
+uint32_t inkcapper_one_sew(uint32_t *rows, size_t rows_len,
+                           uint8_t *marks, size_t marks_len,
+                           uint32_t *queue, size_t queue_len,
+                           uint32_t *plan, size_t plan_len,
+                           uint32_t ld, uint32_t rd, uint64_t values[3]);
+
+/* 1-unlinks ld and, if both darts have beta 3, their beta 3 images likewise, else 9 (ld, rd); plans the
+ * vertex split and answers rd. */
+uint32_t inkcapper_one_unsew(uint32_t *rows, size_t rows_len,
+                             uint8_t *marks, size_t marks_len,
+                             uint32_t *queue, size_t queue_len,
+                             uint32_t *plan, size_t plan_len,
+                             uint32_t ld, uint64_t values[3]);
+
+/* 2-links ld and rd; plans the edge merge and the vertex merges at both ends, on the cells as they stood
+ * before. If the four slots at the ends are defined and the two edges' dot product is zero or more it
+ * refuses 10 (2, ld, rd), before any 6 or 7; a NaN does not refuse. */
+uint32_t inkcapper_two_sew(uint32_t *rows, size_t rows_len,
+                           uint8_t *marks, size_t marks_len,
+                           uint32_t *queue, size_t queue_len,
+                           const uint8_t *vertex_marks, size_t vertex_marks_len,
+                           const double *coordinates, size_t coordinates_len,
+                           uint32_t *plan, size_t plan_len,
+                           uint32_t ld, uint32_t rd, uint64_t values[3]);
+
+/* 2-unlinks ld; plans the edge split and the vertex splits at both ends, on the cells as they stand
+ * after, and answers rd. */
+uint32_t inkcapper_two_unsew(uint32_t *rows, size_t rows_len,
+                             uint8_t *marks, size_t marks_len,
+                             uint32_t *queue, size_t queue_len,
+                             uint32_t *plan, size_t plan_len,
+                             uint32_t ld, uint64_t values[3]);
+
+/* 3-unlinks the face of ld; plans the face split, then for each pair in walk order its edge split and its
+ * vertex splits, on the cells as they stand after, and answers rd. */
+uint32_t inkcapper_three_unsew(uint32_t *rows, size_t rows_len,
+                               uint8_t *marks, size_t marks_len,
+                               uint32_t *queue, size_t queue_len,
+                               uint32_t *plan, size_t plan_len,
+                               uint32_t ld, uint64_t values[3]);
+
+/* ---- Identifiers: dart 0 allowed, and answered with 0. Refusals 1 to 4. Scratch: marks and queue. ---- */
+
+/* Answers the least dart of the Vertex orbit of d. */
+uint32_t inkcapper_vertex_id(const uint32_t *rows, size_t rows_len,
+                             uint8_t *marks, size_t marks_len,
+                             uint32_t *queue, size_t queue_len,
+                             uint32_t d, uint64_t values[3]);
+
+/* Answers the least dart of the Edge orbit of d. */
+uint32_t inkcapper_edge_id(const uint32_t *rows, size_t rows_len,
+                           uint8_t *marks, size_t marks_len,
+                           uint32_t *queue, size_t queue_len,
+                           uint32_t d, uint64_t values[3]);
+
+/* Answers the face of d as honeycomb's face_id walks it, which is not always the least dart of the Face
+ * orbit: on an open face the walk backward takes no minimum over the first darts it stands on. */
+uint32_t inkcapper_face_id(const uint32_t *rows, size_t rows_len,
+                           uint8_t *marks, size_t marks_len,
+                           uint32_t *queue, size_t queue_len,
+                           uint32_t d, uint64_t values[3]);
+
+/* Answers the least dart of the Volume orbit of d. */
+uint32_t inkcapper_volume_id(const uint32_t *rows, size_t rows_len,
+                             uint8_t *marks, size_t marks_len,
+                             uint32_t *queue, size_t queue_len,
+                             uint32_t d, uint64_t values[3]);
+
+/* ---- Orbits: the darts reached from d, first found first, beginning with d; the orbit of 0 is the single
+ *      0. Dart 0 allowed. Refusals 1 to 4. Scratch: marks. In "b1b2" the inner beta is last. ---- */
+
+/* Writes the orbit of d under b1b2, b2b0, b1b3, b3b0, b2b3, b3b2. */
+uint32_t inkcapper_orbit_vertex(const uint32_t *rows, size_t rows_len,
+                                uint8_t *marks, size_t marks_len,
+                                uint32_t *output, size_t output_len,
+                                uint32_t d, uint64_t values[3]);
+
+/* Writes the orbit of d under b1b2, b1b3, b2b3. */
+uint32_t inkcapper_orbit_vertex_linear(const uint32_t *rows, size_t rows_len,
+                                       uint8_t *marks, size_t marks_len,
+                                       uint32_t *output, size_t output_len,
+                                       uint32_t d, uint64_t values[3]);
+
+/* Writes the orbit of d under b2, b3. */
+uint32_t inkcapper_orbit_edge(const uint32_t *rows, size_t rows_len,
+                              uint8_t *marks, size_t marks_len,
+                              uint32_t *output, size_t output_len,
+                              uint32_t d, uint64_t values[3]);
+
+/* Writes the orbit of d under b1, b0, b3. */
+uint32_t inkcapper_orbit_face(const uint32_t *rows, size_t rows_len,
+                              uint8_t *marks, size_t marks_len,
+                              uint32_t *output, size_t output_len,
+                              uint32_t d, uint64_t values[3]);
+
+/* Writes the orbit of d under b1, b3. */
+uint32_t inkcapper_orbit_face_linear(const uint32_t *rows, size_t rows_len,
+                                     uint8_t *marks, size_t marks_len,
+                                     uint32_t *output, size_t output_len,
+                                     uint32_t d, uint64_t values[3]);
+
+/* Writes the orbit of d under b1, b0, b2. */
+uint32_t inkcapper_orbit_volume(const uint32_t *rows, size_t rows_len,
+                                uint8_t *marks, size_t marks_len,
+                                uint32_t *output, size_t output_len,
+                                uint32_t d, uint64_t values[3]);
+
+/* Writes the orbit of d under b1, b2. */
+uint32_t inkcapper_orbit_volume_linear(const uint32_t *rows, size_t rows_len,
+                                       uint8_t *marks, size_t marks_len,
+                                       uint32_t *output, size_t output_len,
+                                       uint32_t d, uint64_t values[3]);
+
+/* Writes the orbit of d under the listed betas in order, possibly none; refuses 5 with the first listed
+ * number above 3, after 4. */
+uint32_t inkcapper_orbit_custom(const uint32_t *rows, size_t rows_len,
+                                uint8_t *marks, size_t marks_len,
+                                uint32_t *output, size_t output_len,
+                                const uint8_t *betas, size_t betas_len,
+                                uint32_t d, uint64_t values[3]);
+
+/* ---- Cell lists: every d from 1 to n-1 that is not unused and is its own identifier, ascending. Refusals
+ *      1 to 3. Scratch: marks and queue. ---- */
+
+/* Writes the vertices. */
+uint32_t inkcapper_list_vertices(const uint32_t *rows, size_t rows_len,
+                                 uint8_t *marks, size_t marks_len,
+                                 uint32_t *queue, size_t queue_len,
+                                 uint32_t *output, size_t output_len,
+                                 const uint8_t *flags, size_t flags_len, uint64_t values[3]);
+
+/* Writes the edges. */
+uint32_t inkcapper_list_edges(const uint32_t *rows, size_t rows_len,
+                              uint8_t *marks, size_t marks_len,
+                              uint32_t *queue, size_t queue_len,
+                              uint32_t *output, size_t output_len,
+                              const uint8_t *flags, size_t flags_len, uint64_t values[3]);
+
+/* Writes the faces, as inkcapper_face_id names them. */
+uint32_t inkcapper_list_faces(const uint32_t *rows, size_t rows_len,
+                              uint8_t *marks, size_t marks_len,
+                              uint32_t *queue, size_t queue_len,
+                              uint32_t *output, size_t output_len,
+                              const uint8_t *flags, size_t flags_len, uint64_t values[3]);
+
+/* Writes the volumes. */
+uint32_t inkcapper_list_volumes(const uint32_t *rows, size_t rows_len,
+                                uint8_t *marks, size_t marks_len,
+                                uint32_t *queue, size_t queue_len,
+                                uint32_t *output, size_t output_len,
+                                const uint8_t *flags, size_t flags_len, uint64_t values[3]);
+
+/* ---- The reader ---- */
+
+/* Reads a stored image of form 1: writes n darts' rows, flags (0 or 1), vertex marks (0 or 1) and
+ * coordinates (positive 0 where no vertex) and no more, and counts n. Refuses 12 with the first wrong
+ * header word, then 2, then 12 with 7 for flags or 8 for vertices, then 3; a refusal writes nothing. */
+uint32_t inkcapper_read_image(const uint8_t *bytes, size_t bytes_len,
+                              uint8_t *flags, size_t flags_len,
+                              uint8_t *vertex_marks, size_t vertex_marks_len,
+                              double *coordinates, size_t coordinates_len,
+                              uint32_t *rows, size_t rows_len, uint64_t values[3]);
+
+#ifdef __cplusplus
+}
+#endif
+
+#endif

@@ -1,0 +1,77 @@
+/* Document 01's examples from C, through the header: prints nothing and ends with 0 if all hold. */
+#include "inkcapper.h"
+
+#include <stdio.h>
+#include <string.h>
+
+static int wrong = 0;
+
+static void expect(const char *what, uint32_t number, const uint64_t values[3],
+                   uint32_t no, uint64_t a, uint64_t b, uint64_t c) {
+    if (number != no || values[0] != a || values[1] != b || values[2] != c) {
+        printf("%s: %u (%llu, %llu, %llu)\n", what, (unsigned)number, (unsigned long long)values[0],
+               (unsigned long long)values[1], (unsigned long long)values[2]);
+        wrong = 1;
+    }
+}
+
+static void join(uint32_t *rows, unsigned i, uint32_t l, uint32_t r) {
+    rows[4 * l + i] = r;
+    rows[4 * r + (i == 1 ? 0 : i)] = l;
+}
+
+int main(void) {
+    uint64_t v[3] = {9, 9, 9};
+
+    /* loops 1 2 3; 4 5 6 7 */
+    uint32_t rows[32] = {0};
+    join(rows, 1, 1, 2), join(rows, 1, 2, 3), join(rows, 1, 3, 1);
+    join(rows, 1, 4, 5), join(rows, 1, 5, 6), join(rows, 1, 6, 7), join(rows, 1, 7, 4);
+    expect("3-link 4,1", inkcapper_three_link(rows, 32, 4, 1, v), v, 7, 3, 7, 1);
+    expect("3-link 1,4", inkcapper_three_link(rows, 32, 1, 4, v), v, 0, 0, 0, 0);
+    expect("beta 3 of 2", inkcapper_beta(rows, 32, 3, 2, v), v, 0, 7, 0, 0);
+    expect("3-unlink 4", inkcapper_three_unlink(rows, 32, 4, v), v, 9, 4, 1, 0);
+    expect("3-unlink 1", inkcapper_three_unlink(rows, 32, 1, v), v, 0, 4, 0, 0);
+    expect("size", inkcapper_is_free(rows, 31, 0, v), v, 1, 31, 0, 0);
+
+    /* two darts, 3-linked */
+    uint32_t pair[12] = {0}, queue[3], plan[16];
+    uint8_t marks[3];
+    join(pair, 3, 1, 2);
+    expect("room", inkcapper_three_unsew(pair, 12, marks, 3, queue, 3, plan, 15, 1, v), v, 11, 4, 0, 0);
+    expect("short", inkcapper_three_unsew(pair, 12, marks, 3, queue, 2, plan, 16, 1, v), v, 2, 2, 0, 0);
+    expect("3-unsew", inkcapper_three_unsew(pair, 12, marks, 3, queue, 3, plan, 16, 1, v), v, 0, 2, 4, 0);
+    const uint32_t wanted[16] = {13, 1, 2, 1, 12, 1, 2, 1, 11, 0, 2, 0, 11, 1, 0, 0};
+    if (memcmp(plan, wanted, sizeof plan)) {
+        puts("3-unsew: plan");
+        wrong = 1;
+    }
+
+    /* open 1 2; 3 4, glued along 1 and 3 */
+    uint32_t strips[20] = {0}, queue5[5], plan3[12];
+    uint8_t marks5[5], defined[5] = {0, 1, 1, 1, 1};
+    double at[15] = {0, 0, 0, 0, 0, 0, 1, 0, 0, 0, 0, 0, 0, 1, 0};
+    join(strips, 1, 1, 2), join(strips, 1, 3, 4);
+    expect("2-sew", inkcapper_two_sew(strips, 20, marks5, 5, queue5, 5, defined, 5, at, 15, plan3, 12, 1, 3, v), v,
+           10, 2, 1, 3);
+    const double against[15] = {0, 0, 0, 0, 0, 0, 1, 0, 0, 1, 0, 0, 0, 0, 0};
+    expect("2-sew", inkcapper_two_sew(strips, 20, marks5, 5, queue5, 5, defined, 5, against, 15, plan3, 12, 1, 3, v), v,
+           0, 0, 3, 0);
+
+    /* cells of a triangle */
+    uint32_t triangle[16] = {0}, queue4[4], output[4];
+    uint8_t marks4[4], flags[4] = {0};
+    const uint8_t betas[2] = {1, 4};
+    join(triangle, 1, 1, 2), join(triangle, 1, 2, 3), join(triangle, 1, 3, 1);
+    expect("face", inkcapper_orbit_face(triangle, 16, marks4, 4, output, 4, 2, v), v, 0, 0, 3, 0);
+    expect("custom", inkcapper_orbit_custom(triangle, 16, marks4, 4, output, 4, betas, 2, 2, v), v, 5, 4, 0, 0);
+    expect("faces", inkcapper_list_faces(triangle, 16, marks4, 4, queue4, 4, output, 4, flags, 4, v), v, 0, 0, 1, 0);
+    expect("volume", inkcapper_volume_id(triangle, 16, marks4, 4, queue4, 4, 3, v), v, 0, 1, 0, 0);
+
+    /* an image that is none */
+    uint8_t bytes[4] = {2, 0, 0, 0}, f[1], m[1];
+    double c[3];
+    uint32_t r[4];
+    expect("image", inkcapper_read_image(bytes, 4, f, 1, m, 1, c, 3, r, 4, v), v, 12, 0, 0, 0);
+    return wrong;
+}

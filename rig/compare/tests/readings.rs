@@ -1,0 +1,182 @@
+//! Readings of document 01 that are stated without a walk, tried over all maps of up to four real darts
+//! against the model's walks (which the comparison holds against the published Rust's).
+
+use std::collections::BTreeMap;
+
+use compare::{Answer, Call, Cell, Kernel, Loans, Model, Orbit, maps};
+
+fn image(rows: &[u32], i: usize, d: u32) -> u32 {
+    rows[4 * d as usize + i]
+}
+
+fn run(call: Call, rows: &[u32]) -> (Answer, Loans) {
+    let mut loans = Loans::around(rows.to_vec());
+    let answer = Model.run(&call, &mut loans);
+    (answer, loans)
+}
+
+/// The face chain of `d`: all darts reached by beta 1 and beta 0, and whether it is closed.
+fn chain(rows: &[u32], d: u32) -> (Vec<u32>, bool) {
+    let mut darts = vec![d];
+    let mut l = image(rows, 1, d);
+    while l != 0 && l != d {
+        darts.push(l);
+        l = image(rows, 1, l);
+    }
+    let closed = l == d;
+    if !closed {
+        l = image(rows, 0, d);
+        while l != 0 {
+            darts.push(l);
+            l = image(rows, 0, l);
+        }
+    }
+    (darts, closed)
+}
+
+/// The step condition: at the end of an open chain the partner's beta 0 is null; the closing step is free;
+/// every other beta 1 step is a beta 0 step between the partners.
+fn steps_match(rows: &[u32], ld: u32, closed: bool, p: &BTreeMap<u32, u32>) -> bool {
+    p.iter().all(|(&l, &to)| match image(rows, 1, l) {
+        0 => image(rows, 0, to) == 0,
+        next if closed && next == ld => true,
+        next => p.get(&next) == Some(&image(rows, 0, to)),
+    })
+}
+
+/// Demand 3's matching of the chain of `ld` with p(ld) = rd, if there is one; the steps leave no choice.
+fn matching(rows: &[u32], ld: u32, rd: u32) -> Option<BTreeMap<u32, u32>> {
+    let (darts, closed) = chain(rows, ld);
+    let mut p = BTreeMap::from([(ld, rd)]);
+    let mut l = ld;
+    while image(rows, 1, l) != 0 && image(rows, 1, l) != ld {
+        let to = image(rows, 0, p[&l]);
+        l = image(rows, 1, l);
+        p.insert(l, to);
+    }
+    l = ld;
+    while !closed && image(rows, 0, l) != 0 {
+        let to = image(rows, 1, p[&l]);
+        l = image(rows, 0, l);
+        p.insert(l, to);
+    }
+    let mut partners: Vec<u32> = p.values().copied().collect();
+    partners.sort_unstable();
+    partners.dedup();
+    let fits = partners.len() == p.len()
+        && partners.iter().all(|to| *to != 0 && !darts.contains(to))
+        && p.iter().all(|(&l, &to)| image(rows, 3, l) == 0 && image(rows, 3, to) == 0)
+        && steps_match(rows, ld, closed, &p);
+    fits.then_some(p)
+}
+
+#[test]
+fn a_three_link_is_done_exactly_when_there_is_a_matching() {
+    let (mut done, mut refused) = (0, 0);
+    for k in 1..=4 {
+        maps::all_of(k, |rows| {
+            for ld in 1..=k as u32 {
+                for rd in 1..=k as u32 {
+                    let (answer, after) = run(Call::ThreeLink { ld, rd }, rows);
+                    let matching = matching(rows, ld, rd);
+                    assert_eq!(answer.0 == 0, matching.is_some(), "3-link {ld},{rd} on {rows:?}");
+                    let Some(p) = matching else {
+                        refused += 1;
+                        continue;
+                    };
+                    done += 1;
+                    // exactly these pairs become 3-linked, and the way back restores every row
+                    let mut wanted = rows.to_vec();
+                    for (&l, &to) in &p {
+                        wanted[4 * l as usize + 3] = to;
+                        wanted[4 * to as usize + 3] = l;
+                    }
+                    assert_eq!(after.rows, wanted);
+                    let (answer, back) = run(Call::ThreeUnlink { ld }, &after.rows);
+                    assert_eq!((answer, &back.rows[..]), ((0, [u64::from(rd), 0, 0]), rows));
+                }
+            }
+        });
+    }
+    assert!(done > 1000 && refused > 1000);
+}
+
+#[test]
+fn a_three_unlink_without_a_walk() {
+    for k in 1..=4 {
+        maps::all_of(k, |rows| {
+            for ld in 1..=k as u32 {
+                let (answer, after) = run(Call::ThreeUnlink { ld }, rows);
+                let rd = image(rows, 3, ld);
+                if rd == 0 {
+                    assert_eq!(answer, (8, [3, u64::from(ld), 0]));
+                    continue;
+                }
+                let (darts, closed) = chain(rows, ld);
+                let p: BTreeMap<u32, u32> = darts.iter().map(|&l| (l, image(rows, 3, l))).collect();
+                let fits = p.values().all(|to| *to != 0 && !darts.contains(to)) && steps_match(rows, ld, closed, &p);
+                if fits {
+                    assert_eq!(answer, (0, [u64::from(rd), 0, 0]), "3-unlink {ld} on {rows:?}");
+                    // row 0 is never written
+                    assert_eq!(after.rows[..4], [0; 4]);
+                } else {
+                    assert_eq!(answer, (9, [u64::from(ld), u64::from(rd), 0]), "3-unlink {ld} on {rows:?}");
+                }
+            }
+        });
+    }
+}
+
+#[test]
+fn face_id_is_least_where_document_01_says_so() {
+    let mut least = 0;
+    for k in 1..=4 {
+        maps::all_of(k, |rows| {
+            for d in 1..=k as u32 {
+                let (darts, closed) = chain(rows, d);
+                let across = |l: u32| image(rows, 3, l);
+                let none = darts.iter().all(|&l| across(l) == 0);
+                let all =
+                    darts.iter().all(|&l| across(l) != 0 && image(rows, 0, across(l)) == across(image(rows, 1, l)));
+                if closed && (none || all) {
+                    let (answer, _) = run(Call::Identifier { cell: Cell::Face, d }, rows);
+                    let (count, loans) = run(Call::Orbit { orbit: Orbit::Face, d }, rows);
+                    let orbit = &loans.output[..count.1[1] as usize];
+                    assert_eq!(answer.1[0], u64::from(*orbit.iter().min().unwrap()), "face of {d} on {rows:?}");
+                    least += 1;
+                }
+            }
+        });
+    }
+    assert!(least > 1000);
+}
+
+/// What a later request proves: a sew that is done, undone at once, loses nothing.
+#[test]
+fn sew_then_unsew_gives_back_rows_and_entries() {
+    for k in 1..=3 {
+        maps::all_of(k, |rows| {
+            for ld in 1..=k as u32 {
+                for rd in 1..=k as u32 {
+                    let pairs = [
+                        (Call::OneSew { ld, rd }, Call::OneUnsew { ld }),
+                        (Call::TwoSew { ld, rd }, Call::TwoUnsew { ld }),
+                    ];
+                    for (sew, unsew) in pairs {
+                        let (answer, sewn) = run(sew, rows);
+                        if answer.0 != 0 {
+                            continue;
+                        }
+                        let (back, undone) = run(unsew, &sewn.rows);
+                        assert_eq!(back, (0, [u64::from(rd), answer.1[1], 0]));
+                        assert_eq!(undone.rows, rows);
+                        let entries = answer.1[1] as usize;
+                        for (merge, split) in sewn.plan.chunks_exact(4).zip(undone.plan.chunks_exact(4)).take(entries) {
+                            assert_eq!([merge[0] + 10, merge[2], merge[3], merge[1]], split, "on {rows:?}");
+                        }
+                    }
+                }
+            }
+        });
+    }
+}

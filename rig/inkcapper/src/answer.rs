@@ -1,0 +1,173 @@
+//! What a call answers.
+
+use std::fmt;
+
+/// The answer of a call: done, or refused with a reason.
+#[derive(Debug, Clone, Copy, PartialEq, Eq, Hash)]
+pub enum Answer {
+    /// Done, with the dart or yes/no answered (0 where none) and the count written (0 where none).
+    Done {
+        /// The dart, or 1 for yes and 0 for no.
+        first: u64,
+        /// Darts for orbits, lists and the reader; entries for plans.
+        count: u64,
+    },
+    /// Refused; rows, vertices, plan and output are unchanged.
+    Refused(Refusal),
+}
+
+/// Document 01's refusals, with their values.
+#[derive(Debug, Clone, Copy, PartialEq, Eq, Hash)]
+pub enum Refusal {
+    /// 1: the row length is 0, no multiple of 4, or the darts are too many.
+    BadSize { length: u64 },
+    /// 2: a loan is below its size. Loans are numbered 1 to 7: marks, queue, output, flags, vertex
+    /// marks, coordinates, rows.
+    ShortLoan { loan: u64 },
+    /// 3: the image of this dart under this beta is the first that breaks a rule of maps.
+    NotAMap { beta: u64, dart: u64 },
+    /// 4: the first or second dart is not below n, or is 0 where a real one is asked for.
+    BadDart { argument: u64 },
+    /// 5: a beta number above 3.
+    BadBeta { value: u64 },
+    /// 6: cannot link `l` to `r`, beta `i` of `l` is not null.
+    NonFreeBase { i: u64, l: u64, r: u64 },
+    /// 7: cannot link `l` to `r`, beta `i` of `r` is not null (or `l` is `r` under beta 2 or 3).
+    NonFreeImage { i: u64, l: u64, r: u64 },
+    /// 8: cannot unlink `d`, its beta `i` is null.
+    AlreadyFree { i: u64, d: u64 },
+    /// 9: the two faces do not go together.
+    AsymmetricalFaces { ld: u64, rd: u64 },
+    /// 10: the two edges do not point against each other.
+    BadGeometry { i: u64, ld: u64, rd: u64 },
+    /// 11: the plan needs this many entries, and fewer fit.
+    PlanRoom { entries: u64 },
+    /// 12: this header word (0 to 6), or the flags (7), or the vertices (8) of the image are wrong.
+    BadImage { part: u64 },
+    /// A number, or values, that document 01 does not have. No call of the proved library gives it.
+    Unknown { number: u32, values: [u64; 3] },
+}
+
+impl Answer {
+    /// The answer for document 01's number and values. Nothing is lost: [`parts`](Self::parts) gives
+    /// both back.
+    ///
+    /// ```
+    /// use inkcapper::{Answer, Refusal};
+    /// assert_eq!(Answer::from_parts(0, [2, 4, 0]), Answer::Done { first: 2, count: 4 });
+    /// let refused = Answer::from_parts(11, [4, 0, 0]);
+    /// assert_eq!(refused, Answer::Refused(Refusal::PlanRoom { entries: 4 }));
+    /// assert_eq!(refused.to_string(), "refused 11: the plan needs room for 4 entries");
+    /// assert_eq!(Answer::from_parts(11, [4, 0, 1]).parts(), (11, [4, 0, 1]));
+    /// ```
+    pub fn from_parts(number: u32, values: [u64; 3]) -> Self {
+        let refusal = match (number, values) {
+            (0, [first, count, 0]) => return Self::Done { first, count },
+            (1, [length, 0, 0]) => Refusal::BadSize { length },
+            (2, [loan, 0, 0]) => Refusal::ShortLoan { loan },
+            (3, [beta, dart, 0]) => Refusal::NotAMap { beta, dart },
+            (4, [argument, 0, 0]) => Refusal::BadDart { argument },
+            (5, [value, 0, 0]) => Refusal::BadBeta { value },
+            (6, [i, l, r]) => Refusal::NonFreeBase { i, l, r },
+            (7, [i, l, r]) => Refusal::NonFreeImage { i, l, r },
+            (8, [i, d, 0]) => Refusal::AlreadyFree { i, d },
+            (9, [ld, rd, 0]) => Refusal::AsymmetricalFaces { ld, rd },
+            (10, [i, ld, rd]) => Refusal::BadGeometry { i, ld, rd },
+            (11, [entries, 0, 0]) => Refusal::PlanRoom { entries },
+            (12, [part, 0, 0]) => Refusal::BadImage { part },
+            _ => Refusal::Unknown { number, values },
+        };
+        Self::Refused(refusal)
+    }
+
+    /// Document 01's number and values.
+    pub fn parts(self) -> (u32, [u64; 3]) {
+        match self {
+            Self::Done { first, count } => (0, [first, count, 0]),
+            Self::Refused(refusal) => refusal.parts(),
+        }
+    }
+
+    /// The first value and the count of a call that was done.
+    ///
+    /// # Errors
+    ///
+    /// The refusal of one that was not.
+    pub fn done(self) -> Result<(u64, u64), Refusal> {
+        match self {
+            Self::Done { first, count } => Ok((first, count)),
+            Self::Refused(refusal) => Err(refusal),
+        }
+    }
+}
+
+impl Refusal {
+    /// Document 01's number and values.
+    pub fn parts(self) -> (u32, [u64; 3]) {
+        match self {
+            Self::BadSize { length } => (1, [length, 0, 0]),
+            Self::ShortLoan { loan } => (2, [loan, 0, 0]),
+            Self::NotAMap { beta, dart } => (3, [beta, dart, 0]),
+            Self::BadDart { argument } => (4, [argument, 0, 0]),
+            Self::BadBeta { value } => (5, [value, 0, 0]),
+            Self::NonFreeBase { i, l, r } => (6, [i, l, r]),
+            Self::NonFreeImage { i, l, r } => (7, [i, l, r]),
+            Self::AlreadyFree { i, d } => (8, [i, d, 0]),
+            Self::AsymmetricalFaces { ld, rd } => (9, [ld, rd, 0]),
+            Self::BadGeometry { i, ld, rd } => (10, [i, ld, rd]),
+            Self::PlanRoom { entries } => (11, [entries, 0, 0]),
+            Self::BadImage { part } => (12, [part, 0, 0]),
+            Self::Unknown { number, values } => (number, values),
+        }
+    }
+}
+
+/// Document 01's names of the loans, 1 to 7.
+fn loan_name(loan: u64) -> &'static str {
+    match loan {
+        1 => "marks",
+        2 => "queue",
+        3 => "output",
+        4 => "flags",
+        5 => "vertex marks",
+        6 => "coordinates",
+        7 => "rows",
+        _ => "loan",
+    }
+}
+
+impl fmt::Display for Answer {
+    fn fmt(&self, f: &mut fmt::Formatter<'_>) -> fmt::Result {
+        match self {
+            Self::Done { first, count } => write!(f, "done: {first}, {count} written"),
+            Self::Refused(refusal) => refusal.fmt(f),
+        }
+    }
+}
+
+impl fmt::Display for Refusal {
+    fn fmt(&self, f: &mut fmt::Formatter<'_>) -> fmt::Result {
+        write!(f, "refused {}: ", self.parts().0)?;
+        match *self {
+            Self::BadSize { length } => write!(f, "{length} is no row length of a map"),
+            Self::ShortLoan { loan } => write!(f, "the {} (loan {loan}) are too short", loan_name(loan)),
+            Self::NotAMap { beta, dart } => write!(f, "beta {beta} of dart {dart} breaks a rule of maps"),
+            Self::BadDart { argument } => write!(f, "dart argument {argument} is no dart of this map"),
+            Self::BadBeta { value } => write!(f, "there is no beta {value}"),
+            Self::NonFreeBase { i, l, r } => write!(f, "cannot link {l} to {r}: beta {i} of {l} is not null"),
+            Self::NonFreeImage { i, l, r } => write!(f, "cannot link {l} to {r}: beta {i} of {r} is not free"),
+            Self::AlreadyFree { i, d } => write!(f, "cannot unlink {d}: beta {i} of {d} is null"),
+            Self::AsymmetricalFaces { ld, rd } => write!(f, "the faces of {ld} and {rd} do not go together"),
+            Self::BadGeometry { i, ld, rd } => {
+                write!(f, "cannot {i}-sew {ld} and {rd}: they do not point against each other")
+            }
+            Self::PlanRoom { entries } => write!(f, "the plan needs room for {entries} entries"),
+            Self::BadImage { part: 7 } => f.write_str("the image's flags are wrong"),
+            Self::BadImage { part: 8 } => f.write_str("the image's vertices are wrong"),
+            Self::BadImage { part } => write!(f, "the image's header word {part} is wrong"),
+            Self::Unknown { values: [a, b, c], .. } => write!(f, "{a} {b} {c}"),
+        }
+    }
+}
+
+impl std::error::Error for Refusal {}

@@ -1,0 +1,298 @@
+//! Loans that grow to what a map needs, so that a caller holds nothing but rows.
+
+use crate::answer::{Answer, Refusal};
+use crate::slices;
+
+/// The most darts that a map may have, the null dart counted.
+pub const MOST_DARTS: usize = 1_048_576;
+
+/// Classes of cells that have an identifier and a list.
+#[derive(Debug, Clone, Copy, PartialEq, Eq, Hash)]
+pub enum Cell {
+    /// Least dart of the Vertex orbit.
+    Vertex,
+    /// Least dart of the Edge orbit.
+    Edge,
+    /// honeycomb's `face_id`.
+    Face,
+    /// Least dart of the Volume orbit.
+    Volume,
+}
+
+/// Orbits, as honeycomb's `OrbitPolicy`.
+#[derive(Debug, Clone, Copy, PartialEq, Eq, Hash)]
+pub enum Orbit<'a> {
+    /// 0-cell.
+    Vertex,
+    /// 0-cell without beta 0.
+    VertexLinear,
+    /// 1-cell.
+    Edge,
+    /// 2-cell.
+    Face,
+    /// 2-cell without beta 0.
+    FaceLinear,
+    /// 3-cell.
+    Volume,
+    /// 3-cell without beta 0.
+    VolumeLinear,
+    /// The listed betas in order.
+    Custom(&'a [u8]),
+}
+
+/// An entry of a plan: what is to be merged or split in the caller's own stores, in order.
+#[derive(Debug, Clone, Copy, PartialEq, Eq, Hash)]
+pub struct Entry {
+    /// 1 vertex merge, 2 edge merge, 11 vertex split, 12 edge split, 13 face split.
+    pub code: u32,
+    /// A merge's out, left in, right in; a split's left out, right out, in.
+    pub ids: [u32; 3],
+}
+
+/// A sew or unsew that was done.
+#[derive(Debug, Clone, Copy, PartialEq, Eq)]
+pub struct Sewn<'a> {
+    /// The dart that an unsew answers, 0 for a sew.
+    pub dart: u32,
+    plan: &'a [u32],
+}
+
+impl<'a> Sewn<'a> {
+    /// The plan in order.
+    pub fn plan(&self) -> impl ExactSizeIterator<Item = Entry> + 'a {
+        self.plan.chunks_exact(4).map(|e| Entry { code: e[0], ids: [e[1], e[2], e[3]] })
+    }
+}
+
+/// Vertex slots, for [`Loans::two_sew`].
+#[derive(Debug, Clone, Copy)]
+pub struct Vertices<'a> {
+    /// Non-zero where the slot holds a point.
+    pub marks: &'a [u8],
+    /// Three coordinates a slot.
+    pub coordinates: &'a [f64],
+}
+
+/// What the reader took out of an image.
+#[derive(Debug, Clone, PartialEq)]
+pub struct Image {
+    /// Beta 0, 1, 2, 3 of dart 0, then of dart 1, and so on.
+    pub rows: Vec<u32>,
+    /// 1 where the dart is unused.
+    pub flags: Vec<u8>,
+    /// 1 where the slot holds a point.
+    pub vertex_marks: Vec<u8>,
+    /// Three coordinates a slot.
+    pub coordinates: Vec<f64>,
+}
+
+/// Scratch, output and plan, grown as the rows ask for it and kept from call to call.
+///
+/// ```
+/// # #[cfg(not(feature = "linked"))] extern crate c_names;
+/// use inkcapper::{Cell, Loans, Orbit, Refusal, slices};
+///
+/// let mut rows = vec![0; 12]; // two free darts
+/// let mut loans = Loans::new();
+/// slices::three_link(&mut rows, 1, 2).done()?;
+/// assert_eq!(loans.identifier(Cell::Face, &rows, 2)?, 1);
+/// assert_eq!(loans.orbit(Orbit::Edge, &rows, 2)?, [2, 1]);
+///
+/// let sewn = loans.three_unsew(&mut rows, 1)?;
+/// assert_eq!(sewn.dart, 2);
+/// assert_eq!(sewn.plan().map(|entry| entry.code).collect::<Vec<_>>(), [13, 12, 11, 11]);
+/// assert_eq!(loans.three_unsew(&mut rows, 1), Err(Refusal::AlreadyFree { i: 3, d: 1 }));
+/// # Ok::<(), Refusal>(())
+/// ```
+#[derive(Debug, Default, Clone)]
+pub struct Loans {
+    marks: Vec<u8>,
+    queue: Vec<u32>,
+    output: Vec<u32>,
+    plan: Vec<u32>,
+}
+
+/// A number that the library answers as a dart. One that is no u32 would be a fault of the library;
+/// it is named as such and not cut short.
+fn dart(first: u64, count: u64) -> Result<u32, Refusal> {
+    u32::try_from(first).map_err(|_| Refusal::Unknown { number: 0, values: [first, count, 0] })
+}
+
+/// The first `count` of what was lent, with the same care.
+fn written(lent: &[u32], first: u64, count: u64, each: usize) -> Result<&[u32], Refusal> {
+    usize::try_from(count)
+        .ok()
+        .and_then(|count| count.checked_mul(each))
+        .and_then(|length| lent.get(..length))
+        .ok_or(Refusal::Unknown { number: 0, values: [first, count, 0] })
+}
+
+impl Loans {
+    /// No loans yet.
+    pub fn new() -> Self {
+        Self::default()
+    }
+
+    /// Grows scratch and output for these rows. Rows that are too long are left to the call's refusal.
+    fn grow(&mut self, rows: &[u32]) {
+        let n = (rows.len() / 4).min(MOST_DARTS);
+        if self.marks.len() < n {
+            self.marks.resize(n, 0);
+            self.queue.resize(n, 0);
+            self.output.resize(n, 0);
+        }
+    }
+
+    /// The identifier of the cell of `d`.
+    ///
+    /// # Errors
+    ///
+    /// Document 01's refusals 1, 3 and 4.
+    pub fn identifier(&mut self, cell: Cell, rows: &[u32], d: u32) -> Result<u32, Refusal> {
+        self.grow(rows);
+        let call = match cell {
+            Cell::Vertex => slices::vertex_id,
+            Cell::Edge => slices::edge_id,
+            Cell::Face => slices::face_id,
+            Cell::Volume => slices::volume_id,
+        };
+        let (first, count) = call(rows, &mut self.marks, &mut self.queue, d).done()?;
+        dart(first, count)
+    }
+
+    /// The darts of an orbit of `d`, first found first.
+    ///
+    /// # Errors
+    ///
+    /// Document 01's refusals 1, 3, 4 and, for `Custom`, 5.
+    pub fn orbit(&mut self, orbit: Orbit<'_>, rows: &[u32], d: u32) -> Result<&[u32], Refusal> {
+        self.grow(rows);
+        let (marks, output) = (&mut self.marks[..], &mut self.output[..]);
+        let answer = match orbit {
+            Orbit::Vertex => slices::orbit_vertex(rows, marks, output, d),
+            Orbit::VertexLinear => slices::orbit_vertex_linear(rows, marks, output, d),
+            Orbit::Edge => slices::orbit_edge(rows, marks, output, d),
+            Orbit::Face => slices::orbit_face(rows, marks, output, d),
+            Orbit::FaceLinear => slices::orbit_face_linear(rows, marks, output, d),
+            Orbit::Volume => slices::orbit_volume(rows, marks, output, d),
+            Orbit::VolumeLinear => slices::orbit_volume_linear(rows, marks, output, d),
+            Orbit::Custom(betas) => slices::orbit_custom(rows, marks, output, betas, d),
+        };
+        let (first, count) = answer.done()?;
+        written(&self.output, first, count, 1)
+    }
+
+    /// The cells of a class that used darts have, ascending. A flag that is not 0 means unused.
+    ///
+    /// # Errors
+    ///
+    /// Document 01's refusals 1 and 3, and 2 for short flags.
+    pub fn list(&mut self, cell: Cell, rows: &[u32], flags: &[u8]) -> Result<&[u32], Refusal> {
+        self.grow(rows);
+        let call = match cell {
+            Cell::Vertex => slices::list_vertices,
+            Cell::Edge => slices::list_edges,
+            Cell::Face => slices::list_faces,
+            Cell::Volume => slices::list_volumes,
+        };
+        let answer = call(rows, &mut self.marks, &mut self.queue, &mut self.output, flags);
+        let (first, count) = answer.done()?;
+        written(&self.output, first, count, 1)
+    }
+
+    /// Calls, and once more with a grown plan where the plan was too short: a refusal changes nothing.
+    fn with_plan(
+        &mut self,
+        rows: &mut [u32],
+        call: impl Fn(&mut [u32], &mut [u8], &mut [u32], &mut [u32]) -> Answer,
+    ) -> Result<Sewn<'_>, Refusal> {
+        self.grow(rows);
+        let mut answer = call(rows, &mut self.marks, &mut self.queue, &mut self.plan);
+        if let Answer::Refused(Refusal::PlanRoom { entries }) = answer {
+            // a plan has at most one face split and three entries for each dart of a side
+            let most = 4 * (1 + 3 * (rows.len() / 4));
+            let needed = usize::try_from(entries).ok().and_then(|e| e.checked_mul(4));
+            if let Some(length) = needed.filter(|&length| length <= most && length > self.plan.len()) {
+                self.plan.resize(length, 0);
+                answer = call(rows, &mut self.marks, &mut self.queue, &mut self.plan);
+            }
+        }
+        let (first, count) = answer.done()?;
+        Ok(Sewn { dart: dart(first, count)?, plan: written(&self.plan, first, count, 4)? })
+    }
+
+    /// 1-sews `ld` to `rd`.
+    ///
+    /// # Errors
+    ///
+    /// Document 01's refusals 1, 3, 4, 6 and 7.
+    pub fn one_sew(&mut self, rows: &mut [u32], ld: u32, rd: u32) -> Result<Sewn<'_>, Refusal> {
+        self.with_plan(rows, |rows, marks, queue, plan| slices::one_sew(rows, marks, queue, plan, ld, rd))
+    }
+
+    /// 1-unsews `ld`.
+    ///
+    /// # Errors
+    ///
+    /// Document 01's refusals 1, 3, 4, 8 and 9.
+    pub fn one_unsew(&mut self, rows: &mut [u32], ld: u32) -> Result<Sewn<'_>, Refusal> {
+        self.with_plan(rows, |rows, marks, queue, plan| slices::one_unsew(rows, marks, queue, plan, ld))
+    }
+
+    /// 2-sews `ld` and `rd`.
+    ///
+    /// # Errors
+    ///
+    /// Document 01's refusals 1, 3, 4, 6, 7 and 10, and 2 for short vertices.
+    pub fn two_sew(&mut self, rows: &mut [u32], vertices: Vertices<'_>, ld: u32, rd: u32) -> Result<Sewn<'_>, Refusal> {
+        self.with_plan(rows, |rows, marks, queue, plan| {
+            slices::two_sew(rows, marks, queue, vertices.marks, vertices.coordinates, plan, ld, rd)
+        })
+    }
+
+    /// 2-unsews `ld`.
+    ///
+    /// # Errors
+    ///
+    /// Document 01's refusals 1, 3, 4 and 8.
+    pub fn two_unsew(&mut self, rows: &mut [u32], ld: u32) -> Result<Sewn<'_>, Refusal> {
+        self.with_plan(rows, |rows, marks, queue, plan| slices::two_unsew(rows, marks, queue, plan, ld))
+    }
+
+    /// 3-unsews the face of `ld`.
+    ///
+    /// # Errors
+    ///
+    /// Document 01's refusals 1, 3, 4, 8 and 9.
+    pub fn three_unsew(&mut self, rows: &mut [u32], ld: u32) -> Result<Sewn<'_>, Refusal> {
+        self.with_plan(rows, |rows, marks, queue, plan| slices::three_unsew(rows, marks, queue, plan, ld))
+    }
+}
+
+/// Reads a stored image of form 1 into loans of its size.
+///
+/// ```
+/// # #[cfg(not(feature = "linked"))] extern crate c_names;
+/// use inkcapper::{Refusal, read_image};
+/// let header = [1u32, 45, 1, 28, 44, 0, 45]; // the null dart alone
+/// let mut bytes: Vec<u8> = header.iter().flat_map(|word| word.to_le_bytes()).collect();
+/// bytes.extend([0; 17]);
+/// assert_eq!(read_image(&bytes)?.rows, [0; 4]);
+/// assert_eq!(read_image(&bytes[1..]), Err(Refusal::BadImage { part: 0 }));
+/// # Ok::<(), Refusal>(())
+/// ```
+///
+/// # Errors
+///
+/// Document 01's refusals 12 and 3.
+pub fn read_image(bytes: &[u8]) -> Result<Image, Refusal> {
+    // Word 2 says how many darts; an image of n darts has at least 17n bytes, so that a word that lies
+    // cannot make us lend more than the image's own size asks for.
+    let word = bytes.get(8..12).and_then(|w| <[u8; 4]>::try_from(w).ok()).map_or(0, u32::from_le_bytes);
+    let n = (word as usize).min(bytes.len() / 17);
+    let mut image =
+        Image { rows: vec![0; 4 * n], flags: vec![0; n], vertex_marks: vec![0; n], coordinates: vec![0.0; 3 * n] };
+    slices::read_image(bytes, &mut image.flags, &mut image.vertex_marks, &mut image.coordinates, &mut image.rows)
+        .done()?;
+    Ok(image)
+}

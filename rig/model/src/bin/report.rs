@@ -1,0 +1,10 @@
+//! What the report program must print: an image from standard input, the model's report to standard
+//! output.
+
+use std::io::{Read, Write};
+
+fn main() -> std::io::Result<()> {
+    let mut input = Vec::new();
+    std::io::stdin().read_to_end(&mut input)?;
+    std::io::stdout().write_all(model::report(&input).as_bytes())
+}

@@ -1,9 +1,9 @@
--- `reads::inkcapper_beta` meets its contract: the call's answer, handed on. Assumes nothing.
+-- `read_calls::inkcapper_beta` meets its contract: the call's answer, handed on. Assumes nothing.
 use mathlib.Core.Path.{_∙_, ap}
 use Rattle.inkcapper.specs.Flat.{flatOf}
 use borrow.Author.Needs.{needs}
-use Rattle.inkcapper.proofs.reads.inkcapper_beta.Statement.{statement}
-use Rattle.inkcapper.proofs.reads.inkcapper_beta.Tie as tie
+use Rattle.inkcapper.proofs.read_calls.inkcapper_beta.Statement.{statement}
+use Rattle.inkcapper.proofs.read_calls.inkcapper_beta.Tie as tie
 
 beta-requires : tie.Need-beta-requires
 beta-requires c κs = search needs

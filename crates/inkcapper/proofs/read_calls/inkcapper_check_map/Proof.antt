@@ -1,9 +1,9 @@
--- `reads::inkcapper_check_map` meets its contract: the call's answer, handed on. Assumes nothing.
+-- `read_calls::inkcapper_check_map` meets its contract: the call's answer, handed on. Assumes nothing.
 use mathlib.Core.Path.{_∙_, ap}
 use Rattle.inkcapper.specs.Flat.{flatOf}
 use borrow.Author.Needs.{needs}
-use Rattle.inkcapper.proofs.reads.inkcapper_check_map.Statement.{statement}
-use Rattle.inkcapper.proofs.reads.inkcapper_check_map.Tie as tie
+use Rattle.inkcapper.proofs.read_calls.inkcapper_check_map.Statement.{statement}
+use Rattle.inkcapper.proofs.read_calls.inkcapper_check_map.Tie as tie
 
 check-map-requires : tie.Need-check-map-requires
 check-map-requires c κs = search needs

@@ -1,9 +1,9 @@
--- `reads::inkcapper_is_free` meets its contract: the call's answer, handed on. Assumes nothing.
+-- `read_calls::inkcapper_is_free` meets its contract: the call's answer, handed on. Assumes nothing.
 use mathlib.Core.Path.{_∙_, ap}
 use Rattle.inkcapper.specs.Flat.{flatOf}
 use borrow.Author.Needs.{needs}
-use Rattle.inkcapper.proofs.reads.inkcapper_is_free.Statement.{statement}
-use Rattle.inkcapper.proofs.reads.inkcapper_is_free.Tie as tie
+use Rattle.inkcapper.proofs.read_calls.inkcapper_is_free.Statement.{statement}
+use Rattle.inkcapper.proofs.read_calls.inkcapper_is_free.Tie as tie
 
 is-free-requires : tie.Need-is-free-requires
 is-free-requires c κs = search needs

@@ -1,0 +1,29 @@
+-- `id_calls::inkcapper_edge_id` meets its contract: the call's answer, handed on. Assumes nothing.
+use mathlib.Core.Path.{_∙_, ap}
+use Rattle.cells.specs.Calls.{IdLeft}
+use Rattle.inkcapper.specs.Flat.{flatOf}
+use borrow.Author.Needs.{needs}
+use Rattle.inkcapper.proofs.id_calls.inkcapper_edge_id.Statement.{statement}
+use Rattle.inkcapper.proofs.id_calls.inkcapper_edge_id.Tie as tie
+
+edge-id-requires : tie.Need-edge-id-requires
+edge-id-requires c κs = search needs
+
+hand-on-requires : tie.Need-hand-on-requires
+hand-on-requires c κs = search needs
+
+same-length : tie.Need-same-length
+same-length c = search needs
+
+same-length-2 : tie.Need-same-length-2
+same-length-2 c = search needs
+
+returns : tie.Need-returns
+returns c =
+    (c .hand-on .ensures ∙ ap (λ (o : IdLeft). flatOf (o .answer)) (c .before .before .before .before .before .before .edge-id .ensures),
+    (ap (λ (o : IdLeft). o .marks) (c .before .before .before .before .before .before .edge-id .ensures),
+    ap (λ (o : IdLeft). o .queue) (c .before .before .before .before .before .before .edge-id .ensures)))
+
+pub inkcapper-edge-id-spec : {M : Type 1} → statement M
+inkcapper-edge-id-spec =
+    tie.close (tie.spec edge-id-requires hand-on-requires same-length same-length-2 returns)

@@ -1,0 +1,29 @@
+-- `id_calls::inkcapper_volume_id` meets its contract: the call's answer, handed on. Assumes nothing.
+use mathlib.Core.Path.{_∙_, ap}
+use Rattle.cells.specs.Calls.{IdLeft}
+use Rattle.inkcapper.specs.Flat.{flatOf}
+use borrow.Author.Needs.{needs}
+use Rattle.inkcapper.proofs.id_calls.inkcapper_volume_id.Statement.{statement}
+use Rattle.inkcapper.proofs.id_calls.inkcapper_volume_id.Tie as tie
+
+volume-id-requires : tie.Need-volume-id-requires
+volume-id-requires c κs = search needs
+
+hand-on-requires : tie.Need-hand-on-requires
+hand-on-requires c κs = search needs
+
+same-length : tie.Need-same-length
+same-length c = search needs
+
+same-length-2 : tie.Need-same-length-2
+same-length-2 c = search needs
+
+returns : tie.Need-returns
+returns c =
+    (c .hand-on .ensures ∙ ap (λ (o : IdLeft). flatOf (o .answer)) (c .before .before .before .before .before .before .volume-id .ensures),
+    (ap (λ (o : IdLeft). o .marks) (c .before .before .before .before .before .before .volume-id .ensures),
+    ap (λ (o : IdLeft). o .queue) (c .before .before .before .before .before .before .volume-id .ensures)))
+
+pub inkcapper-volume-id-spec : {M : Type 1} → statement M
+inkcapper-volume-id-spec =
+    tie.close (tie.spec volume-id-requires hand-on-requires same-length same-length-2 returns)

@@ -1,0 +1,25 @@
+-- `link_calls::inkcapper_two_unlink` meets its contract: the call's answer, handed on. Assumes nothing.
+use mathlib.Core.Path.{_∙_, ap}
+use Rattle.betas.specs.Answers.{Out}
+use Rattle.inkcapper.specs.Flat.{flatOf}
+use borrow.Author.Needs.{needs}
+use Rattle.inkcapper.proofs.link_calls.inkcapper_two_unlink.Statement.{statement}
+use Rattle.inkcapper.proofs.link_calls.inkcapper_two_unlink.Tie as tie
+
+two-unlink-requires : tie.Need-two-unlink-requires
+two-unlink-requires c κs = search needs
+
+hand-on-requires : tie.Need-hand-on-requires
+hand-on-requires c κs = search needs
+
+same-length : tie.Need-same-length
+same-length c = search needs
+
+returns : tie.Need-returns
+returns c =
+    (c .hand-on .ensures ∙ ap (λ (o : Out). flatOf (o .answer)) (c .before .before .before .before .two-unlink .ensures),
+    ap (λ (o : Out). o .rows) (c .before .before .before .before .two-unlink .ensures))
+
+pub inkcapper-two-unlink-spec : {M : Type 1} → statement M
+inkcapper-two-unlink-spec =
+    tie.close (tie.spec two-unlink-requires hand-on-requires same-length returns)

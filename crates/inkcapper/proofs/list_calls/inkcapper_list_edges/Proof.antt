@@ -1,0 +1,34 @@
+-- `list_calls::inkcapper_list_edges` meets its contract: the call's answer, handed on. Assumes nothing.
+use mathlib.Core.Path.{_∙_, ap}
+use Rattle.cells.specs.Calls.{ListLeft}
+use Rattle.inkcapper.specs.Flat.{flatOf}
+use borrow.Author.Needs.{needs}
+use Rattle.inkcapper.proofs.list_calls.inkcapper_list_edges.Statement.{statement}
+use Rattle.inkcapper.proofs.list_calls.inkcapper_list_edges.Tie as tie
+
+list-edges-requires : tie.Need-list-edges-requires
+list-edges-requires c κs = search needs
+
+hand-on-requires : tie.Need-hand-on-requires
+hand-on-requires c κs = search needs
+
+same-length : tie.Need-same-length
+same-length c = search needs
+
+same-length-2 : tie.Need-same-length-2
+same-length-2 c = search needs
+
+same-length-3 : tie.Need-same-length-3
+same-length-3 c = search needs
+
+returns : tie.Need-returns
+returns c =
+    (c .hand-on .ensures ∙ ap (λ (o : ListLeft). flatOf (o .answer)) (c .before .before .before .before .before .before .before .before .list-edges .ensures),
+    (ap (λ (o : ListLeft). o .marks) (c .before .before .before .before .before .before .before .before .list-edges .ensures),
+    (ap (λ (o : ListLeft). o .queue) (c .before .before .before .before .before .before .before .before .list-edges .ensures),
+    ap (λ (o : ListLeft). o .output) (c .before .before .before .before .before .before .before .before .list-edges .ensures))))
+
+pub inkcapper-list-edges-spec : {M : Type 1} → statement M
+inkcapper-list-edges-spec =
+    tie.close
+    (tie.spec list-edges-requires hand-on-requires same-length same-length-2 same-length-3 returns)

@@ -1,0 +1,40 @@
+-- `list_calls::inkcapper_list_vertices` meets its contract: the call's answer, handed on. Assumes nothing.
+use mathlib.Core.Path.{_∙_, ap}
+use Rattle.cells.specs.Calls.{ListLeft}
+use Rattle.inkcapper.specs.Flat.{flatOf}
+use borrow.Author.Needs.{needs}
+use Rattle.inkcapper.proofs.list_calls.inkcapper_list_vertices.Statement.{statement}
+use Rattle.inkcapper.proofs.list_calls.inkcapper_list_vertices.Tie as tie
+
+list-vertices-requires : tie.Need-list-vertices-requires
+list-vertices-requires c κs = search needs
+
+hand-on-requires : tie.Need-hand-on-requires
+hand-on-requires c κs = search needs
+
+same-length : tie.Need-same-length
+same-length c = search needs
+
+same-length-2 : tie.Need-same-length-2
+same-length-2 c = search needs
+
+same-length-3 : tie.Need-same-length-3
+same-length-3 c = search needs
+
+returns : tie.Need-returns
+returns c =
+    (c .hand-on .ensures ∙ ap (λ (o : ListLeft). flatOf (o .answer)) (c .before .before .before .before .before .before .before .before .list-vertices .ensures),
+    (ap (λ (o : ListLeft). o .marks) (c .before .before .before .before .before .before .before .before .list-vertices .ensures),
+    (ap (λ (o : ListLeft). o .queue) (c .before .before .before .before .before .before .before .before .list-vertices .ensures),
+    ap (λ (o : ListLeft). o .output) (c .before .before .before .before .before .before .before .before .list-vertices .ensures))))
+
+pub inkcapper-list-vertices-spec : {M : Type 1} → statement M
+inkcapper-list-vertices-spec =
+    tie.close
+    (tie.spec
+    list-vertices-requires
+    hand-on-requires
+    same-length
+    same-length-2
+    same-length-3
+    returns)

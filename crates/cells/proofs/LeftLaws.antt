@@ -3,7 +3,7 @@
 --   list-refused, list-passed   a list call behind its tests
 --   id-left, list-left          what a call that is not refused leaves
 --   id-ready, list-ready        what holds once the guard has passed
---   ident-vertex, -edge, -volume, -class   the identifier of each class, from its cell
+--   ident-class, list-class     the class that a match has found
 -- Assumes nothing.
 use Prim.Native.Nat.{ℕ}
 use mathlib.Core.Path.{_≡_, refl, sym, ap, _∙_}

@@ -1,4 +1,11 @@
--- Inserting a dart, and a leg of the face walk: what a turn keeps. Assumes nothing.
+-- Marking a dart, and a leg of the face walk: what a turn keeps.
+--   add-cases, insert-left, insert-cases   marking lengthens the list by one, or changes nothing
+--   inserted-left, inserted-right, unchanged   a push of l, and where that changes nothing one of r
+--   leg-more, leg-done                     the step laws of a leg
+--   Walking, walking-starts, -turn, -ends  the loop of a leg
+--   walked-one, walked-two                 both legs
+--   lower-null, lower-less, lower-more     the cases of `lower`
+-- Assumes nothing.
 use mathlib.Core.Path.{_≡_, refl, sym, ap, _∙_, subst}
 use mathlib.Core.Bool.{Bool, true, false, cond, not, _||_, or-true, true≢false}
 use mathlib.Core.Logic.{_⊎_, inl, inr, ⊎-elim}

@@ -1,3 +1,21 @@
+-- The laws of faces, each file over the ones before it.
+--   LegLaws      a leg of the walk, as the code goes it
+--   SoundLaws    the walk keeps to the Face orbit
+--   LeastLaws    on a regular face it finds the least dart
+--   RegularLaws  which faces are regular, and that all darts of a face are or none
+--   AvoidLaws    the walk with darts marked that it never meets
+--   FacedLaws    the darts that the list has done with
+--   UnmarkLaws   a queue that has grown, unmarked again
+--   SightLaws    what the list learns of a dart
+--   KeepingLaws  the loop of the list
+--   Examples     worked examples, computed
 pub mod LegLaws
+pub mod SoundLaws
 pub mod LeastLaws
+pub mod RegularLaws
+pub mod AvoidLaws
+pub mod FacedLaws
+pub mod UnmarkLaws
+pub mod SightLaws
 pub mod KeepingLaws
+pub mod Examples

@@ -6,14 +6,17 @@
 --   turn, leg       one turn of a leg, and a leg
 --   forward, backward, faceWalk   the legs of d, with what is marked before
 --   faceId rows d   the face identifier of d
+--   chain           the steps of a face's chain
+--   Regular rows d  the chain of d is closed, and each of its beta 1 steps is a beta 0 step between the beta 3 images
+--   regular rows d  the same as a test
 --   Walked          what a walk leaves
 use Prim.Native.Nat.{ℕ, zero, suc, min}
 use mathlib.Core.Path.{_≡_}
-use mathlib.Core.Bool.{Bool, cond, not, _||_}
-use mathlib.Core.List.{List, []}
+use mathlib.Core.Bool.{Bool, true, false, cond, not, _||_}
+use mathlib.Core.List.{List, [], _∷_}
 use lib.Dec.{eqb}
 use Rattle.betas.specs.Betas.{beta, darts}
-use Rattle.orbits.specs.Search.{mem, add}
+use Rattle.orbits.specs.Search.{mem, add, Reach}
 use Rattle.orbits.specs.Loans.{Grown}
 
 unfoldable pub fresh : List ℕ → ℕ → Bool
@@ -68,6 +71,27 @@ faceWalk rows s d =
 -- "`face_id` follows the Rust even where it isn't least"
 unfoldable pub faceId : List ℕ → ℕ → ℕ
 faceId rows d = faceWalk rows [] d .low
+
+-- "all darts reached .. by beta 1 and beta 0"
+abbrev pub chain : List ℕ
+chain = 1 ∷ 0 ∷ []
+
+-- "Where the chain is closed and either none of its darts has a beta 3 image, or all have and each beta 1 step is a beta 0 step between their
+-- images": null images of beta 3 follow each other too, so that one law serves both cases (`proofs/RegularLaws.antt`)
+pub record Regular (rows : List ℕ) (d : ℕ) : Type 0 where
+  pub closed : (x : ℕ) → Reach rows chain d x → beta rows 1 x ≡ 0 → ⊥
+  pub across : (x : ℕ) → Reach rows chain d x → beta rows 3 (beta rows 1 x) ≡ beta rows 0 (beta rows 3 x)
+
+-- from x on round to d, with f turns at most
+unfoldable pub regularFrom : List ℕ → ℕ → ℕ → ℕ → Bool
+regularFrom rows d zero x = false
+regularFrom rows d (suc f) x =
+    let more = regularFrom rows d f (beta rows 1 x) in
+    cond (eqb (beta rows 1 x) 0) false
+    (cond (not (eqb (beta rows 3 (beta rows 1 x)) (beta rows 0 (beta rows 3 x)))) false (cond (eqb (beta rows 1 x) d) true more))
+
+unfoldable pub regular : List ℕ → ℕ → Bool
+regular rows d = regularFrom rows d (darts rows) d
 
 -- a leg ended at w, with its marked darts in the queue's first k places
 pub record Walked (w : Walk) (queue : List ℕ) (k₀ : ℕ) (marks′ queue′ : List ℕ) (k l r low : ℕ) : Type 0 where

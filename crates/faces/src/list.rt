@@ -1,26 +1,99 @@
-// The list of faces.
-use crate::walk::face_of;
+// The list of faces. Where a face is regular one visit serves all of its darts; elsewhere each dart is asked by the walk.
+use crate::walk::walk;
+use betas::betas::beta_at;
+use lists::grow;
+use orbits::policy::FACE;
+use orbits::scratch::clear;
+use orbits::scratch::wipe_marks;
 use orbits::scratch::wipe_queue;
 ghost use mathlib.Core.Path.{_≡_};
 ghost use mathlib.Core.Bool.{_&&_};
 ghost use lib.Dec.{eqb};
 ghost use Prim.Native.Nat.{ℕ, _<_, _≤_};
-ghost use lib.ListN.{length};
+ghost use lib.ListN.{length, take};
 ghost use Rattle.betas.specs.Betas.{darts};
-ghost use Rattle.orbits.specs.Loans.{Zero, Scratch, Listed};
+ghost use Rattle.betas.specs.Maps.{WellFormed};
+ghost use Rattle.orbits.specs.Loans.{Zero, Queue, Scratch, Listed};
 ghost use Rattle.orbits.specs.Calls.{wiped};
 ghost use Rattle.lists.specs.CellLists.{Put, cellsBy};
-ghost use Rattle.faces.specs.Faces.{faceId};
+ghost use Rattle.faces.specs.Faces.{faceId, regular};
+ghost use Rattle.faces.specs.FaceLists.{Faced, Apart, Asked, Sighted};
+
+// Whether d is its own face identifier, and how many darts the list has done with then.
+pub struct Sight {
+    pub own: bool,
+    pub known: usize,
+}
+
+// Whether the chain of d is closed and each of its beta 1 steps is a beta 0 step between the beta 3 images.
+fn is_regular(rows: &[u32], d: u32) -> bool
+    requires { ⌜ WellFormed (now rows) × (d < darts (now rows)) ⌝ }
+    ensures { λ r. ⌜ r ≡ regular (now (rows .entry)) d ⌝ }
+{
+    let mut left = rows.len() / 4;
+    let mut x = d;
+    while 0 < left {
+        let y = beta_at(rows, 1, x);
+        if y == 0 {
+            return false;
+        }
+        let t = beta_at(rows, 3, x);
+        if beta_at(rows, 3, y) != beta_at(rows, 0, t) {
+            return false;
+        }
+        if y == d {
+            return true;
+        }
+        x = y;
+        left -= 1;
+    }
+    false
+}
+
+// The face identifier of d by the walk, with the darts that the list has done with marked: d reaches none of them.
+fn ask(rows: &[u32], marks: &mut [u8], queue: &mut [u32], known: usize, d: u32) -> u32
+    requires { ⌜ Scratch (now rows) (now marks) (now queue) × (d < darts (now rows)) × Queue (now marks) (now queue) known × Apart (now rows) d (take known (now queue)) ⌝ }
+    ensures { λ r. ⌜ Asked (now (rows .entry)) d (now (queue .entry)) known (now (marks .exit)) (now (queue .exit)) r ⌝ }
+{
+    let w = walk(rows, marks, queue, known, d);
+    let more = w.k - known;
+    clear(marks, &queue[known..], more);
+    w.low
+}
+
+// Looks at d: a dart that is done with is not its own identifier, a regular one that is not is, and its whole face is then done with.
+fn look(rows: &[u32], marks: &mut [u8], queue: &mut [u32], known: usize, d: u32) -> Sight
+    requires { ⌜ Scratch (now rows) (now marks) (now queue) × (0 < d) × (d < darts (now rows)) × Queue (now marks) (now queue) known × Faced (now rows) d (take known (now queue)) ⌝ }
+    ensures { λ r. ⌜ Sighted (now (rows .entry)) d (now (queue .entry)) (now (marks .exit)) (now (queue .exit)) (r .own) (r .known) ⌝ }
+{
+    let at = d as usize;
+    if marks[at] != 0 {
+        return Sight { own: false, known };
+    }
+    if is_regular(rows, d) {
+        let steps = FACE;
+        let more = grow(rows, &steps, marks, queue, known, d);
+        return Sight {
+            own: true,
+            known: more,
+        };
+    }
+    let id = ask(rows, marks, queue, known, d);
+    Sight {
+        own: id == d,
+        known,
+    }
+}
 
 // Puts x behind the first count places, where it is its own identifier and not unused.
-fn keep(output: &mut [u32], count: usize, x: u32, id: u32, flag: u8) -> usize
+fn keep(output: &mut [u32], count: usize, x: u32, own: bool, flag: u8) -> usize
     requires { ⌜ count < length (now output) ⌝ }
-    ensures { λ r. ⌜ Put (eqb flag 0 && eqb id x) x (now (output .entry)) count (now (output .exit)) r ⌝ }
+    ensures { λ r. ⌜ Put (eqb flag 0 && own) x (now (output .entry)) count (now (output .exit)) r ⌝ }
 {
     if flag != 0 {
         return count;
     }
-    if id != x {
+    if !own {
         return count;
     }
     output[count] = x;
@@ -39,14 +112,17 @@ pub fn faces_core(
     ensures { λ r. ⌜ (now (marks .exit) ≡ now (marks .entry)) × (now (queue .exit) ≡ wiped (darts (now (rows .entry))) (now (queue .entry))) × Listed (cellsBy (faceId (now (rows .entry))) (darts (now (rows .entry))) (now (flags .entry))) (now (output .entry)) (now (output .exit)) r ⌝ }
 {
     let n = marks.len();
+    let mut known: usize = 0;
     let mut count: usize = 0;
     let mut d: usize = 1;
     while d < n {
         let x = d as u32;
-        let id = face_of(rows, marks, queue, x);
-        count = keep(output, count, x, id, flags[d]);
+        let s = look(rows, marks, queue, known, x);
+        known = s.known;
+        count = keep(output, count, x, s.own, flags[d]);
         d += 1;
     }
+    wipe_marks(marks, n);
     wipe_queue(queue, n);
     count
 }

@@ -5,7 +5,7 @@ use orbits::scratch::wipe_queue;
 use orbits::search::push;
 ghost use mathlib.Core.Path.{_≡_};
 ghost use Prim.Native.Nat.{ℕ, _<_, _≤_};
-ghost use lib.ListN.{length, take, drop};
+ghost use lib.ListN.{length, take};
 ghost use Rattle.betas.specs.Betas.{darts};
 ghost use Rattle.orbits.specs.Loans.{Queue, Grown, Zero, Scratch};
 ghost use Rattle.faces.specs.Faces.{Walked, insert as insertOf, lower as lowerOf, leg as legOf, faceWalk, faceId};
@@ -108,15 +108,5 @@ pub fn face_core(rows: &[u32], marks: &mut [u8], queue: &mut [u32], d: u32) -> u
     let k = w.k;
     clear(marks, queue, k);
     wipe_queue(queue, k);
-    w.low
-}
-
-// The face identifier of d, where only the marks have to be 0 before and after: the queue's first n places may hold anything.
-pub fn face_of(rows: &[u32], marks: &mut [u8], queue: &mut [u32], d: u32) -> u32
-    requires { ⌜ Scratch (now rows) (now marks) (now queue) × (d < darts (now rows)) × Zero (now marks) ⌝ }
-    ensures { λ r. ⌜ (now (marks .exit) ≡ now (marks .entry)) × (drop (darts (now (rows .entry))) (now (queue .exit)) ≡ drop (darts (now (rows .entry))) (now (queue .entry))) × (r ≡ faceId (now (rows .entry)) d) ⌝ }
-{
-    let w = walk(rows, marks, queue, 0, d);
-    clear(marks, queue, w.k);
     w.low
 }

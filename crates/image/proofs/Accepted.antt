@@ -4,7 +4,7 @@
 --   accepted-by   what holds where all tests pass
 --   accepts       the tests pass where it holds
 --   accepted-iff  both ways, of the tests
-use Prim.Native.Nat.{ℕ, _+_, _*_, _<_, _≤_}
+use Prim.Native.Nat.{ℕ, _*_, _<_, _≤_}
 use native.Mathlib.Omega.{arith}
 use mathlib.Core.Path.{_≡_, refl, sym, ap, _∙_}
 use mathlib.Core.Logic.{_↔_}
@@ -18,9 +18,9 @@ use Rattle.betas.specs.declared.error.Answer.{Answer}
 use Rattle.betas.specs.declared.error.Answer.the-variants.{Refused}
 use Rattle.betas.specs.declared.error.Refusal.the-variants.{ShortLoan}
 use Rattle.betas.specs.declared.guard.Loans.{Loans}
-use Rattle.betas.specs.Answers.{pass, isDone, andThen}
+use Rattle.betas.specs.Answers.{pass, isDone}
 use Rattle.betas.specs.Guards.{loanTest, Lent}
-use Rattle.betas.specs.Maps.{Sized, sizeTest, mapTest, checkMap, WellFormed}
+use Rattle.betas.specs.Maps.{Sized, sizeTest, mapTest, WellFormed}
 use Rattle.betas.proofs.AnswerLaws.{stops, goes-on, first-done, then-done}
 use Rattle.betas.proofs.GuardLaws.{lent, loan-none}
 use Rattle.betas.proofs.MapLaws.{size-good}

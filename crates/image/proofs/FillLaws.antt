@@ -6,7 +6,7 @@
 --   slots-filled        cleared, then all records put in: what the image says
 use Prim.Native.Nat.{ℕ, zero, suc, _+_, _-_, _*_, _<_, _≤_}
 use native.Mathlib.Omega.{arith}
-use mathlib.Core.Path.{_≡_, refl, sym, ap, _∙_}
+use mathlib.Core.Path.{_≡_, refl, ap, _∙_}
 use mathlib.Core.List.{List, _++_}
 use lib.ListN.{length, drop, set, length-set}
 use lib.Seq.{set-append-left}

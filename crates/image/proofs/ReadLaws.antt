@@ -4,7 +4,7 @@
 --   read-refused   a refusal leaves the loans as they were
 --   read-done      a reading that is done leaves the image's content
 use Prim.Native.Nat.{ℕ, _*_, _<_}
-use mathlib.Core.Path.{_≡_, refl, sym, ap, _∙_}
+use mathlib.Core.Path.{_≡_, ap, _∙_}
 use mathlib.Core.List.{List, _++_}
 use mathlib.Core.Bool.{true, false}
 use lib.ListN.{drop}

@@ -11,7 +11,7 @@ use lib.ListN.{length, getD, set, length-set}
 use lib.Seq.{getD-set-same, getD-set-other}
 use lib.Ieee.{Float, nan}
 use Rattle.stored.specs.Form.{recordDart, recordCoordinate, Sound}
-use Rattle.image.specs.Content.{Slots, slots, putPoint, putRecord, putRecords}
+use Rattle.image.specs.Content.{Slots, putPoint, putRecord, putRecords}
 use Rattle.image.proofs.FillLaws.{first-sound, later-sound, one-marks, one-coordinates}
 
 pub marks-length : (k : ℕ) (bytes : List ℕ) (at : ℕ) (s : Slots) → length (putRecords k bytes at s .marks) ≡ length (s .marks)

@@ -11,7 +11,7 @@ use native.Mathlib.Omega.{arith}
 use mathlib.Core.Path.{_≡_, refl, sym, ap, _∙_}
 use mathlib.Core.Logic.{_≢_, _↔_}
 use mathlib.Core.List.{List, _++_}
-use mathlib.Core.Bool.{Bool, true, false, cond, true≢false}
+use mathlib.Core.Bool.{Bool, true, false, cond}
 use lib.ListN.{length, getD, drop, List·getD-append}
 use lib.Seq.{getD-append-add, getD-drop}
 use lib.Ieee.{Float, nan}
@@ -22,7 +22,7 @@ use Rattle.betas.specs.Betas.{beta}
 use Rattle.words.specs.Words.{word32}
 use Rattle.words.proofs.Filled.{listed-length, listed-get}
 use Rattle.stored.specs.Form.{form1, flagOffset, vertexOffset, dartsOf, verticesOf, rowsOf, flagAt, recordAt, recordDart, recordCoordinate}
-use Rattle.image.specs.Content.{Slots, slots, over, plusZero, noMarks, noCoordinates, emptySlots, flagsOf, slotsOf}
+use Rattle.image.specs.Content.{slots, plusZero, noMarks, noCoordinates, emptySlots, flagsOf, slotsOf}
 use Rattle.image.specs.Reads.{Read, left, wrote, testOf, readWithin, readImage, Accepted}
 use Rattle.stored.proofs.StoredLaws.{rows-length, stored-is}
 use Rattle.image.proofs.SlotLaws.{Holds, marks-length, coordinates-length, many-other, many-named}

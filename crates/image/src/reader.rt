@@ -12,20 +12,21 @@ use betas::guard::Loans;
 use betas::guard::loan_test;
 use stored::blocks::flags_test;
 use stored::blocks::vertices_test;
+use stored::form::DARTS_AT;
 use stored::form::ROW_OFFSET;
+use stored::form::VERTICES_AT;
 use stored::form::flag_offset;
 use stored::form::vertex_offset;
 use stored::header::header_test;
 use stored::map::map_test;
 use words::word_at;
 ghost use mathlib.Core.Path.{_≡_};
-ghost use mathlib.Core.List.{_++_};
-ghost use Prim.Native.Nat.{ℕ, _+_, _*_, _<_, _≤_};
+ghost use Prim.Native.Nat.{ℕ, _*_, _<_, _≤_};
 ghost use lib.ListN.{length, drop};
-ghost use Rattle.stored.specs.Form.{form1, vertexOffset, totalBytes, rowsOf, recordAt, Sound};
+ghost use Rattle.stored.specs.Form.{form1, totalBytes, recordAt, Sound};
 ghost use Rattle.image.specs.Tests.{readerLoans, loansTest, blocksTest, imageTest};
-ghost use Rattle.image.specs.Content.{Slots, slots, over, slotsOf, flagsOf};
-ghost use Rattle.image.specs.Reads.{left, wrote, readWithin, readImage};
+ghost use Rattle.image.specs.Content.{slots, over, slotsOf};
+ghost use Rattle.image.specs.Reads.{left, readWithin, readImage};
 
 // The loans that the reader has of those that other calls have too.
 fn reader_loans(flags: usize, vertices: usize, coordinates: usize) -> Loans
@@ -81,12 +82,12 @@ fn image_test(bytes: &[u8], most: u32, loans: Loans, rows: usize) -> Answer
     if !is_done(h) {
         return h;
     }
-    let n = word_at(bytes, 8);
+    let n = word_at(bytes, DARTS_AT);
     let l = loans_test(n as usize, loans, rows);
     if !is_done(l) {
         return l;
     }
-    blocks_test(bytes, n, word_at(bytes, 20))
+    blocks_test(bytes, n, word_at(bytes, VERTICES_AT))
 }
 
 // Writes the vertex slots of n darts from v records.
@@ -123,9 +124,9 @@ pub fn read_within(
     if !is_done(t) {
         return t;
     }
-    let n = word_at(bytes, 8);
+    let n = word_at(bytes, DARTS_AT);
     copy_bytes(bytes, flag_offset(n) as usize, flags, n as usize);
-    fill_slots(bytes, n, word_at(bytes, 20), vertices, coordinates);
+    fill_slots(bytes, n, word_at(bytes, VERTICES_AT), vertices, coordinates);
     copy_words(bytes, ROW_OFFSET as usize, rows, 4 * (n as usize));
     Answer::Done(0, n as usize)
 }

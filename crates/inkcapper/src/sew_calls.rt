@@ -2,6 +2,7 @@
 use crate::flat::hand_on;
 ghost use mathlib.Core.Path.{_≡_};
 ghost use Rattle.sews.specs.Calls.{oneSew, oneUnsew, twoSew, twoUnsew};
+ghost use Rattle.unsews.specs.Calls.{threeUnsew};
 ghost use Rattle.inkcapper.specs.Flat.{flat, flatOf};
 
 // The 1-sew of ld and rd.
@@ -88,4 +89,26 @@ pub extern "C" fn inkcapper_two_unsew(
     ensures { λ r. ⌜ now (plan .exit) ≡ twoUnsew (now (rows .entry)) (now (marks .entry)) (now (queue .entry)) (now (plan .entry)) ld .plan ⌝ }
 {
     hand_on(sews::calls::two_unsew(rows, marks, queue, plan, ld), values)
+}
+
+// The 3-unsew of ld.
+#[no_mangle]
+pub extern "C" fn inkcapper_three_unsew(
+    rows: &mut [u32],
+    marks: &mut [u8],
+    queue: &mut [u32],
+    plan: &mut [u32],
+    ld: u32,
+    values: &mut [u64; 3],
+) -> u32
+    ensures { λ r. ⌜ flat r (now (values .exit)) ≡ flatOf (threeUnsew (now (rows .entry)) (now (marks .entry)) (now (queue .entry)) (now (plan .entry)) ld .answer) ⌝ }
+    ensures { λ r. ⌜ now (rows .exit) ≡ threeUnsew (now (rows .entry)) (now (marks .entry)) (now (queue .entry)) (now (plan .entry)) ld .rows ⌝ }
+    ensures { λ r. ⌜ now (marks .exit) ≡ threeUnsew (now (rows .entry)) (now (marks .entry)) (now (queue .entry)) (now (plan .entry)) ld .marks ⌝ }
+    ensures { λ r. ⌜ now (queue .exit) ≡ threeUnsew (now (rows .entry)) (now (marks .entry)) (now (queue .entry)) (now (plan .entry)) ld .queue ⌝ }
+    ensures { λ r. ⌜ now (plan .exit) ≡ threeUnsew (now (rows .entry)) (now (marks .entry)) (now (queue .entry)) (now (plan .entry)) ld .plan ⌝ }
+{
+    hand_on(
+        unsews::calls::three_unsew(rows, marks, queue, plan, ld),
+        values,
+    )
 }

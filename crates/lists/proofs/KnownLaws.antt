@@ -1,4 +1,8 @@
--- Going through the darts in order, with the cells of the darts passed marked: a dart that is not marked is the least of its cell. Assumes nothing.
+-- Going through the darts in order, with the cells of the darts passed marked: a dart that is not marked is the least of its cell.
+--   Known                      a list has exactly the darts whose identifier is below d
+--   known-starts, -old, -same, -new, -more   it is kept from dart to dart
+--   cells-flags, cells-other, cells-own      the step laws of `cellsFrom`
+-- Assumes nothing.
 use mathlib.Core.Path.{_≡_, refl, sym, ap, _∙_, subst}
 use mathlib.Core.Bool.{Bool, true, false, cond, _&&_, and-false}
 use mathlib.Core.Logic.{_⊎_, inl, inr, ⊎-elim}
@@ -15,10 +19,10 @@ use Rattle.betas.specs.Betas.{darts}
 use Rattle.orbits.specs.Idents.{ident}
 use Rattle.orbits.specs.Search.{In, NoRep, search, Step, Reach, Bounded, Symmetric}
 use Rattle.orbits.specs.Steps.{image}
-use Rattle.orbits.proofs.Lists.{bool, in-at, norep-snoc}
-use Rattle.orbits.proofs.SearchLaws.{Ext, ext-refl, ext-in, Good, Passes}
-use Rattle.orbits.proofs.OrbitLaws.{Has, State, Finished, finished, closed-reach, image-below}
+use Rattle.orbits.proofs.Lists.{bool}
+use Rattle.orbits.proofs.OrbitLaws.{Has, closed-reach, image-below}
 use Rattle.orbits.proofs.IdentLaws.{reach-real, reach-below, ident-reached, ident-le, ident-same, ident-one, ident-twice}
+use Rattle.lists.proofs.WidenLaws.{widened-only, widened-old, widened-new, widened-closed}
 
 -- l has the darts whose identifier is below d, and no others
 pub record Known (rows steps : List ℕ) (d : ℕ) (l : List ℕ) : Type 0 where
@@ -75,68 +79,28 @@ module _ (rows steps : List ℕ) (b : Bounded rows) (y : Symmetric rows steps) w
           (bool (eqb (image rows s x) 0))
 
       module _ (norep : NoRep l) (lt : (x : ℕ) → In x l → x < darts rows) (real : (x : ℕ) → In x l → x ≡ 0 → ⊥) where
-        -- what the search from d on may add
-        P : ℕ → Type 0
-        P x = (In x l ⊎ Reach rows steps d x) × (x < darts rows)
-
-        passes : Passes rows steps P
-        unfolding P
-        passes x p s m z = (
-          ⊎-elim
-              (λ q. ⊎-elim (λ e. absurd (z e)) inl (l-closed lt real x q s m))
-              (λ q. inr (ReflTransGenᴰ·tail q (record { by = s; listed = m; leads = refl; real = z })))
-              (p .0),
-          image-below rows b s x,
-        )
-
-        start : State rows steps P (l ++ (d ∷ [])) (length l) (l ++ (d ∷ []))
-        unfolding P
-        start =
-            record {
-              good =
-                  record {
-                    norep = norep-snoc l d norep out;
-                    all = λ x m.
-                        ⊎-elim
-                        (λ q. (inl q, lt x q))
-                        (λ q. let e = List·Memᴰ·eq-of-singleton q in subst P (sym e) (inr ReflTransGenᴰ·refl, h))
-                        (List·Memᴰ·append-cases l m);
-                  };
-              upto = omega (arith, length-append l (d ∷ []));
-              starts = ext-refl (l ++ (d ∷ []));
-              closed = λ i q s m.
-                  rw (List·getD-append l (d ∷ []) 0 i q)
-                  (⊎-elim inl (λ t. inr (Memᴰ·append-left (d ∷ []) t)) (l-closed lt real (getD l i 0) (in-at l i q) s m));
-            }
-
         abbrev M : List ℕ
         M = search rows steps (darts rows - length l) (length l) (l ++ (d ∷ []))
 
-        fin : Finished rows steps P (l ++ (d ∷ [])) M
-        unfolding P
-        fin = finished rows steps P passes (l ++ (d ∷ [])) (darts rows) (λ x p. p .1) (darts rows - length l) (length l) (l ++ (d ∷ [])) (omega arith) start
-
         pub known-more : Known rows steps (d + 1) M
-        unfolding P
         known-more =
             record {
               only = λ x m.
                   ⊎-elim
                   (λ q. omega (arith, v .only x q))
                   (λ q. omega (arith, ident-same rows steps b y d x h q, known-new))
-                  (fin .good .all x m .0);
+                  (widened-only rows steps b d l h out norep lt (l-closed lt real) x m);
               every = λ x x-lt z q.
                   ⊎-elim
                   (λ e.
-                  closed-reach rows steps M (fin .closed) (ext-in (fin .starts) (Memᴰ·append-right l (List·Memᴰ·head refl)))
+                  closed-reach rows steps M (widened-closed rows steps b d l h out norep lt (l-closed lt real)) (widened-new rows steps b d l h out norep lt (l-closed lt real))
                   (ident-one rows steps b y d x h x-lt (known-new ∙ sym e)))
-                  (λ t. ext-in (fin .starts) (Memᴰ·append-left (d ∷ []) (v .every x x-lt z t)))
+                  (λ t. widened-old rows steps b d l h out norep lt (l-closed lt real) x (v .every x x-lt z t))
                   (eq-or-lt-of-le (omega arith));
             }
 
         pub more-real : (x : ℕ) → In x M → x ≡ 0 → ⊥
-        unfolding P
-        more-real x m = ⊎-elim (real x) (reach-real rows steps r) (fin .good .all x m .0)
+        more-real x m = ⊎-elim (real x) (reach-real rows steps r) (widened-only rows steps b d l h out norep lt (l-closed lt real) x m)
 
 -- ---- the step laws of `cellsFrom`
 

@@ -1,2 +1,9 @@
+-- The laws of cell lists, each file over the ones before it.
+--   WidenLaws     a closed list, widened by the search from one dart more
+--   KnownLaws     going through the darts in order, an unmarked one is the least of its cell
+--   ListingLaws   the loop of the list, and scratch at its end
+--   MemberLaws    what a list holds, and that it ascends
+pub mod WidenLaws
 pub mod KnownLaws
 pub mod ListingLaws
+pub mod MemberLaws

@@ -1,4 +1,9 @@
--- The loop of `cells`, and that a turn keeps its invariant. Assumes nothing.
+-- The loop of the list, and that a turn keeps its invariant.
+--   put-none, put-one     a dart put behind an output's first places, or not
+--   grown-both            a push and a flood
+--   Listing, listing-..   the loop
+--   marks-same, queue-wiped   scratch at the end
+-- Assumes nothing.
 use mathlib.Core.Path.{_≡_, refl, sym, ap, _∙_, subst}
 use mathlib.Core.Bool.{Bool, true, false, cond, _&&_}
 use mathlib.Core.Logic.{_⊎_, inl, inr, ⊎-elim}

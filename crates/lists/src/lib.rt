@@ -15,7 +15,7 @@ ghost use Rattle.orbits.specs.Calls.{wiped};
 ghost use Rattle.lists.specs.CellLists.{cellList, Put};
 
 // Puts d into the queue, unless it is there, with all that the steps reach from it.
-fn grow(
+pub fn grow(
     rows: &[u32],
     steps: &[u8],
     marks: &mut [u8],

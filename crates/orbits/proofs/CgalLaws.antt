@@ -1,4 +1,11 @@
--- The darts that the steps of a class reach are those of the class's orbit in the CGAL manual's sense, and reaching is symmetric. Assumes nothing.
+-- The steps of a cell reach the darts of the CGAL manual's cell.
+--   word, inverse, image-word   a step as a composition of betas, and its inverse
+--   undone, from-real           a composition that is defined is undone by its inverse; its dart is not null
+--   Serves                      the steps are the permutations of Φ and their inverses
+--   reach-orbit, orbit-reach, reach-exact   then they reach exactly the orbit
+--   symmetric                   and they lead back
+--   vertex-serves .. volume-serves   the four cells
+-- Assumes nothing.
 use mathlib.Core.Path.{_≡_, refl, sym, ap, _∙_, subst}
 use mathlib.Core.Bool.{Bool, true, false, cond}
 use mathlib.Core.Logic.{_⊎_, inl, inr, ⊎-elim, _↔_}

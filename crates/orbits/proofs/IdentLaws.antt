@@ -1,4 +1,11 @@
--- The identifier is the least dart of the orbit; darts have one identifier exactly where they are in one orbit. Assumes nothing.
+-- The identifier is the least dart of the orbit.
+--   min-one, least-in, least-le   the least of a list is one of it, and no more than any
+--   ident-reached, ident-least, ident-le   the identifier is reached, and least
+--   reach-below, reach-real, reach-symm    what is reached is a dart; is not null; is reached back
+--   ident-same, ident-one, ident-twice     darts have one identifier exactly where they are in one orbit
+--   Lowest, lowest-..   the loop of `least`
+--   cell-is             the two numbers that the core finds are the cell
+-- Assumes nothing.
 use mathlib.Core.Path.{_≡_, refl, sym, ap, _∙_, subst}
 use mathlib.Core.Bool.{Bool, true, false}
 use mathlib.Core.Logic.{_⊎_, inl, inr, ⊎-elim, _↔_}

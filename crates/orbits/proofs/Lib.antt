@@ -1,3 +1,16 @@
+-- The laws of orbits, each file over the ones before it.
+--   Lists        membership, no repeats, pigeonhole
+--   StepLaws     steps
+--   SearchLaws   the search
+--   OrbitLaws    what an orbit's list is, for every list of steps
+--   CgalLaws     the steps of a cell reach the CGAL manual's cell
+--   IdentLaws    the least dart
+--   QueueLaws    the queue and its marks
+--   TurnLaws     the loops of the search
+--   ScratchLaws  scratch that is wiped and lent on
+--   CallLaws     the calls, case by case
+--   CellLaws     what orbits are, for a reader
+--   Examples     worked examples, computed
 pub mod Lists
 pub mod StepLaws
 pub mod SearchLaws

@@ -1,4 +1,10 @@
--- Lists of numbers: membership, no repeats, and that a list of n different numbers below n has at most n. Assumes nothing.
+-- Lists of numbers.
+--   bool                              a test is true or false
+--   mem-in, in-mem, not-mem, mem-not  the test of membership against the fact
+--   in-at, at-in                      membership by place
+--   norep-snoc, norep-le              no repeats: one number more; no longer than a list that has all of its numbers
+--   pigeonhole                        at most n different numbers are below n
+-- Assumes nothing.
 use mathlib.Core.Path.{_≡_, refl, sym, ap, _∙_, subst}
 use mathlib.Core.Bool.{Bool, true, false, _||_, or-true, false≢true}
 use mathlib.Core.Logic.{_⊎_, inl, inr, ⊎-elim, _≢_}

@@ -1,4 +1,11 @@
--- The orbit's list has no repeats, begins with its dart, and holds exactly the darts that the steps reach. Assumes nothing.
+-- What an orbit's list is, for every list of steps.
+--   Has, closed-reach  a list that is closed under the steps has all that its members reach
+--   finished           a search with as many visits as there are darts ends with a closed list
+--   image-below        an image is a dart
+--   orbit-norep, orbit-starts, orbit-below   no repeats, begins with d, darts only
+--   orbit-sound, orbit-complete, orbit-exact   it holds exactly the darts that the steps reach
+--   orbit-room, orbit-some   its length
+-- Assumes nothing.
 use mathlib.Core.Path.{_≡_, refl, sym, ap, _∙_, subst}
 use mathlib.Core.Bool.{Bool, true, false, cond}
 use mathlib.Core.Logic.{_⊎_, inl, inr, ⊎-elim, _↔_}

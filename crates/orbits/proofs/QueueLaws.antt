@@ -1,4 +1,11 @@
--- The queue that a list's first places are, with its marks: what a push does to it. Assumes nothing.
+-- The queue that a list's first places are, with its marks.
+--   add-null, add-old, add-new   the cases of `add`, as equations
+--   flag-zero, flag-some         what a mark says
+--   push-null, -old, -room, -queue, -new   a push, case by case
+--   queue-none, queue-n          the empty queue; a queue has at most n darts
+--   cleared-none, -step, -all    clearing the marks of a list
+--   take-below                   the darts of a list's first places
+-- Assumes nothing.
 use mathlib.Core.Path.{_≡_, refl, sym, ap, _∙_, subst}
 use mathlib.Core.Bool.{Bool, true, false, cond, _||_, or-true}
 use mathlib.Core.Logic.{_⊎_, inl, inr, ⊎-elim}
@@ -27,7 +34,7 @@ module _ (l : List ℕ) (x : ℕ) where
   add-old e =
       ap (λ (b : Bool). cond (eqb x 0 || b) l (l ++ (x ∷ []))) e ∙ ap (λ (b : Bool). cond b l (l ++ (x ∷ []))) (or-true (eqb x 0))
 
-  add-new : (x ≡ 0 → ⊥) → mem x l ≡ false → add l x ≡ l ++ (x ∷ [])
+  pub add-new : (x ≡ 0 → ⊥) → mem x l ≡ false → add l x ≡ l ++ (x ∷ [])
   unfolding add
   add-new z e =
       ap (λ (b : Bool). cond (b || mem x l) l (l ++ (x ∷ []))) (ne-eqb x 0 z) ∙ ap (λ (b : Bool). cond b l (l ++ (x ∷ []))) e
@@ -37,11 +44,11 @@ unfolding mem
 mem-snoc-other y x [] n = ap (λ (b : Bool). b || false) (ne-eqb y x n)
 mem-snoc-other y x (z ∷ l) n = ap (λ (b : Bool). eqb y z || b) (mem-snoc-other y x l n)
 
-flag-zero : (b : Bool) → flag b ≡ 0 → b ≡ false
+pub flag-zero : (b : Bool) → flag b ≡ 0 → b ≡ false
 flag-zero true e = absurd (eqb-false 1 0 refl e)
 flag-zero false e = refl
 
-flag-some : (b : Bool) → (flag b ≡ 0 → ⊥) → b ≡ true
+pub flag-some : (b : Bool) → (flag b ≡ 0 → ⊥) → b ≡ true
 flag-some true e = refl
 flag-some false e = absurd (e refl)
 

@@ -1,4 +1,12 @@
--- Laws of the search: what it lists has no repeats, is what the steps reach, and is closed under them. Assumes nothing.
+-- The laws of the search.
+--   Ext, ext-..             a list goes on
+--   Added, added, added-..  `add` by cases
+--   Good, added-good        no repeats, and a property that the steps pass on
+--   search-more, -none, -done   the step laws
+--   visit-ext, -has, -good  what a visit does
+--   search-inv              what holds at the start and after each visit holds at the end
+--   search-ext              the list goes on
+-- Assumes nothing.
 use mathlib.Core.Path.{_≡_, refl, sym, ap, _∙_, subst}
 use mathlib.Core.Bool.{Bool, true, false, cond, _||_, or-true}
 use mathlib.Core.Logic.{_⊎_, inl, inr, ⊎-elim}

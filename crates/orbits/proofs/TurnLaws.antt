@@ -1,4 +1,11 @@
--- The invariants of the search's loops, and that a turn keeps them. Assumes nothing.
+-- The loops of the search, and that a turn keeps their invariants.
+--   drop-more              what is as it was behind k places is so behind more
+--   Visiting, visiting-..  the loop of `visit`
+--   Flooding, flooding-.., dart-below, count-n   the loop of `flood`
+--   seeded, flooded        an orbit's start and end
+--   fit-same               rows and loans fit as long as the lengths stay
+--   listed-take, -room, -drop   what a caller of the core learns
+-- Assumes nothing.
 use mathlib.Core.Path.{_≡_, refl, sym, ap, _∙_, subst}
 use mathlib.Core.List.{List, [], _∷_, _++_}
 use Prim.Native.Nat.{ℕ, zero, suc, _+_, _-_, _*_, _≤_, _<_}

@@ -9,7 +9,7 @@ ghost use Rattle.betas.specs.Maps.{WellFormed};
 ghost use Rattle.sews.specs.Ids.{vertexId, edgeId, Scratch};
 
 // The vertex of d.
-pub(crate) fn vertex_at(rows: &[u32], marks: &mut [u8], queue: &mut [u32], d: u32) -> u32
+pub fn vertex_at(rows: &[u32], marks: &mut [u8], queue: &mut [u32], d: u32) -> u32
     requires { ⌜ WellFormed (now rows) × (d < darts (now rows)) × Scratch (darts (now rows)) (now marks) (now queue) ⌝ }
     ensures { λ r. ⌜ r ≡ vertexId (now (rows .entry)) d ⌝ }
     ensures { λ r. ⌜ (now (marks .exit) ≡ now (marks .entry)) × (now (queue .exit) ≡ now (queue .entry)) ⌝ }
@@ -20,7 +20,7 @@ pub(crate) fn vertex_at(rows: &[u32], marks: &mut [u8], queue: &mut [u32], d: u3
 }
 
 // The edge of d.
-pub(crate) fn edge_at(rows: &[u32], marks: &mut [u8], queue: &mut [u32], d: u32) -> u32
+pub fn edge_at(rows: &[u32], marks: &mut [u8], queue: &mut [u32], d: u32) -> u32
     requires { ⌜ WellFormed (now rows) × (d < darts (now rows)) × Scratch (darts (now rows)) (now marks) (now queue) ⌝ }
     ensures { λ r. ⌜ r ≡ edgeId (now (rows .entry)) d ⌝ }
     ensures { λ r. ⌜ (now (marks .exit) ≡ now (marks .entry)) × (now (queue .exit) ≡ now (queue .entry)) ⌝ }

@@ -10,13 +10,13 @@ ghost use Rattle.plan.specs.Plan.{width};
 ghost use Rattle.sews.specs.Entries.{entryOf, listed, allOf, entriesIf, writtenAll};
 
 // An entry, or none.
-pub(crate) enum Item {
+pub enum Item {
     Nothing,
     One(Entry),
 }
 
 // The entries of one pair of darts, in the order in which they are written.
-pub(crate) struct Items {
+pub struct Items {
     pub first: Item,
     pub second: Item,
     pub third: Item,
@@ -33,7 +33,7 @@ fn entry_of(class: Class, kind: Kind, left: u32, right: u32) -> Entry
 }
 
 // The entry for two cells, where it is asked for and they differ.
-pub(crate) fn item_if(asked: bool, class: Class, kind: Kind, left: u32, right: u32) -> Item
+pub fn item_if(asked: bool, class: Class, kind: Kind, left: u32, right: u32) -> Item
     ensures { λ r. ⌜ listed r ≡ entriesIf asked class kind left right ⌝ }
 {
     if !asked {
@@ -55,7 +55,7 @@ fn size(item: Item) -> usize
 }
 
 // How many entries there are.
-pub(crate) fn count(items: Items) -> usize
+pub fn count(items: Items) -> usize
     ensures { λ r. ⌜ (r ≡ length (allOf items)) × (r ≤ 3) ⌝ }
 {
     let a = items.first;
@@ -79,7 +79,7 @@ fn put_item(plan: &mut [u32], at: usize, item: Item) -> usize
 }
 
 // Writes the entries from number `at` of the plan on, and gives back the number behind them.
-pub(crate) fn put_items(plan: &mut [u32], at: usize, items: Items) -> usize
+pub fn put_items(plan: &mut [u32], at: usize, items: Items) -> usize
     requires { ⌜ width * (at + length (allOf items)) ≤ length (now plan) ⌝ }
     ensures { λ r. ⌜ (r ≡ at + length (allOf items)) × (now (plan .exit) ≡ writtenAll (now (plan .entry)) at (allOf items)) ⌝ }
 {

@@ -114,7 +114,7 @@ fn agree(rows: &[u32], ld: u32, rd: u32) -> bool
 }
 
 // The dart of an answer.
-pub(crate) fn dart_of(a: Answer) -> u32
+pub fn dart_of(a: Answer) -> u32
     ensures { λ r. ⌜ r ≡ dartOf a ⌝ }
 {
     match a {

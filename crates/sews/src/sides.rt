@@ -24,7 +24,7 @@ pub(crate) struct Side {
 }
 
 // The larger of two images: the one that is not null, where one is.
-pub(crate) fn larger_of(a: u32, b: u32) -> u32
+pub fn larger_of(a: u32, b: u32) -> u32
     ensures { λ r. ⌜ r ≡ larger a b ⌝ }
 {
     if a <= b { b } else { a }

@@ -4,21 +4,20 @@
 --   layout-..      each case of words 2 to 6
 --   header-done    a header that passes has the form
 --   header-good    a header that has the form passes
-use Prim.Native.Nat.{ℕ, _+_, _*_, _<_, _≤_}
+use Prim.Native.Nat.{ℕ, _<_, _≤_}
 use native.Mathlib.Omega.{arith}
 use mathlib.Core.Path.{_≡_, refl, sym}
 use mathlib.Core.Logic.{_≢_}
 use mathlib.Core.List.{List}
 use mathlib.Core.Bool.{Bool, true, false, true≢false}
 use lib.ListN.{length}
-use lib.Dec.{ltb, leb, eqb}
 use borrow.Author.Tests.{lt-ltb, le-ltb, le-leb, lt-leb, eq-eqb, ne-eqb, ltb-true, leb-true, eqb-true}
 use Rattle.betas.specs.declared.error.Answer.{Answer}
 use Rattle.betas.specs.declared.error.Answer.the-variants.{Refused}
 use Rattle.betas.specs.declared.error.Refusal.the-variants.{BadImage}
-use Rattle.betas.specs.Answers.{pass, isDone, andThen}
+use Rattle.betas.specs.Answers.{pass, isDone}
 use Rattle.betas.proofs.AnswerLaws.{first-done, then-done}
-use Rattle.stored.specs.Form.{Form, form1, rowOffset, flagOffset, vertexOffset, totalBytes, headerWord, dartsOf, verticesOf, Header}
+use Rattle.stored.specs.Form.{form1, rowOffset, flagOffset, vertexOffset, totalBytes, headerWord, dartsOf, verticesOf, Header}
 use Rattle.stored.specs.Tests.{unless, startTest, layoutTest, headerTest}
 
 pub unless-done : (b : Bool) (k : ℕ) (more : Answer) → isDone (unless b k more) ≡ true → (b ≡ true) × (isDone more ≡ true)

@@ -3,7 +3,7 @@
 --   rows-length, rows-darts   the rows are those of n darts
 --   stored-is                 the word of dart d and beta i is its image
 --   stored-far, stored-null, stored-dart0, stored-fixed, stored-back   each case of a breach
-use Prim.Native.Nat.{ℕ, _+_, _*_, _/_, _<_, _≤_}
+use Prim.Native.Nat.{ℕ, _+_, _*_, _<_, _≤_}
 use native.Mathlib.Omega.{arith}
 use mathlib.Core.Path.{_≡_, sym, ap, _∙_}
 use mathlib.Core.Logic.{_≢_}

@@ -8,14 +8,14 @@ use Prim.Native.Nat.{ℕ, zero, suc, _+_, _-_, _*_, _<_, _≤_}
 use native.Mathlib.Omega.{arith}
 use mathlib.Core.Path.{_≡_, refl, sym, ap, _∙_}
 use mathlib.Core.List.{List}
-use mathlib.Core.Bool.{Bool, true, false, _&&_}
+use mathlib.Core.Bool.{true, false}
 use lib.Dec.{ltb}
 use lib.Ieee.Scale.{finite}
 use borrow.Author.Tests.{lt-ltb, le-ltb, ltb-true}
 use Rattle.betas.specs.declared.error.Answer.the-variants.{Refused}
 use Rattle.betas.specs.declared.error.Refusal.the-variants.{BadImage}
 use Rattle.betas.specs.Answers.{pass, isDone}
-use Rattle.stored.specs.Form.{form1, vertexOffset, recordAt, recordDart, recordCoordinate, Sound, Vertices}
+use Rattle.stored.specs.Form.{form1, vertexOffset, recordDart, recordCoordinate, Sound, Vertices}
 use Rattle.stored.specs.Tests.{unless, recordGood, recordsGood, verticesTest}
 use Rattle.stored.proofs.HeaderLaws.{unless-done}
 use Rattle.stored.proofs.FlagLaws.{and-true}

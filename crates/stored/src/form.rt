@@ -6,6 +6,12 @@ ghost use Rattle.stored.specs.Form.{form1, flagOffset, vertexOffset, tot
 // The number of the form: word 0.
 pub const FORM: u32 = 1;
 
+// Where n, the number of darts, stands: word 2.
+pub const DARTS_AT: usize = 8;
+
+// Where v, the number of vertices, stands: word 5.
+pub const VERTICES_AT: usize = 20;
+
 // Where the rows start: behind seven words.
 pub const ROW_OFFSET: u32 = 28;
 

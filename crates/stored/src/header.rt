@@ -1,6 +1,8 @@
 // The header test: the first wrong word is named.
+use crate::form::DARTS_AT;
 use crate::form::FORM;
 use crate::form::ROW_OFFSET;
+use crate::form::VERTICES_AT;
 use crate::form::flag_offset;
 use crate::form::total_bytes;
 use crate::form::vertex_offset;
@@ -38,7 +40,7 @@ fn layout_test(bytes: &[u8], most: u32) -> Answer
     requires { ⌜ (28 ≤ length (now bytes)) × (most ≤ 1048576) ⌝ }
     ensures { λ r. ⌜ r ≡ layoutTest most (now (bytes .entry)) ⌝ }
 {
-    let n = word_at(bytes, 8);
+    let n = word_at(bytes, DARTS_AT);
     if n < 1 {
         return Answer::Refused(Refusal::BadImage(2));
     }
@@ -51,7 +53,7 @@ fn layout_test(bytes: &[u8], most: u32) -> Answer
     if word_at(bytes, 16) != flag_offset(n) {
         return Answer::Refused(Refusal::BadImage(4));
     }
-    let v = word_at(bytes, 20);
+    let v = word_at(bytes, VERTICES_AT);
     if n <= v {
         return Answer::Refused(Refusal::BadImage(5));
     }

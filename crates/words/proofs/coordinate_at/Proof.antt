@@ -1,5 +1,5 @@
 -- `coordinate_at` meets its contract: a finite pattern is no NaN's. Assumes nothing.
-use mathlib.Core.Path.{ap, sym, _∙_, subst}
+use mathlib.Core.Path.{ap, sym, subst}
 use Prim.Native.Nat.{ℕ}
 use mathlib.Core.Bool.{not}
 use lib.Dec.{T}

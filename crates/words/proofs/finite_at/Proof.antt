@@ -1,5 +1,5 @@
 -- `finite_at` meets its contract: what it tests is that the pattern is finite. Assumes nothing.
-use mathlib.Core.Path.{ap, sym, _∙_}
+use mathlib.Core.Path.{ap, _∙_}
 use Prim.Native.Nat.{ℕ, _%_}
 use lib.Dec.{ltb}
 use Rattle.words.specs.Words.{coordinateAt}

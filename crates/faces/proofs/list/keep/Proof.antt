@@ -1,5 +1,6 @@
 -- `list::keep` meets its contract: both tests, one after the other. Assumes nothing.
-use borrow.Author.Tests.{ne-eqb, eq-eqb}
+use mathlib.Core.Bool.{true, false}
+use borrow.Author.Tests.{ne-eqb, eq-eqb, not-true, not-false}
 use Rattle.lists.proofs.ListingLaws.{put-none, put-one}
 use borrow.Author.Needs.{needs}
 use Rattle.faces.proofs.list.keep.Statement.{statement}
@@ -13,7 +14,7 @@ returns c =
 returns-2 : tie.Need-returns-2
 returns-2 c =
     let s = c .before .before in
-    rw (eq-eqb (s .args .flag) 0 (c .before .if1 .left), ne-eqb (s .args .id) (s .args .x) (c .if2 .taken))
+    rw (eq-eqb (s .args .flag) 0 (c .before .if1 .left), not-true (s .args .own) (c .if2 .taken))
     (put-none (s .args .x) (s .args .output .now) (s .args .count))
 
 mul-output : tie.Need-mul-output
@@ -31,7 +32,7 @@ same-length c = search needs
 returns-3 : tie.Need-returns-3
 returns-3 c =
     let s = c .before .before in
-    rw (eq-eqb (s .args .flag) 0 (c .before .if1 .left), eq-eqb (s .args .id) (s .args .x) (c .if2 .left))
+    rw (eq-eqb (s .args .flag) 0 (c .before .if1 .left), not-false (s .args .own) (c .if2 .left))
     (put-one (s .args .x) (s .args .output .now) (s .args .count) (s .pre))
 
 pub keep-spec : {M : Type 1} → statement M

@@ -19,10 +19,13 @@ same-length-2 : tie.Need-same-length-2
 same-length-2 c = search needs
 
 returns : tie.Need-returns
-returns c =
-    (c .hand-on .ensures ∙ ap (λ (o : IdLeft). flatOf (o .answer)) (c .before .before .before .before .before .before .face-id .ensures),
-    (ap (λ (o : IdLeft). o .marks) (c .before .before .before .before .before .before .face-id .ensures),
-    ap (λ (o : IdLeft). o .queue) (c .before .before .before .before .before .before .face-id .ensures)))
+returns c = (
+  c .hand-on .ensures ∙ ap (λ (o : IdLeft). flatOf (o .answer)) (c .before .before .before .before .before .before .face-id .ensures),
+  (
+    ap (λ (o : IdLeft). o .marks) (c .before .before .before .before .before .before .face-id .ensures),
+    ap (λ (o : IdLeft). o .queue) (c .before .before .before .before .before .before .face-id .ensures),
+  ),
+)
 
 pub inkcapper-face-id-spec : {M : Type 1} → statement M
 inkcapper-face-id-spec =

@@ -25,12 +25,19 @@ same-length-4 : tie.Need-same-length-4
 same-length-4 c = search needs
 
 returns : tie.Need-returns
-returns c =
-    (c .hand-on .ensures ∙ ap (λ (o : Read). flatOf (o .answer)) (c .before .before .before .before .before .before .before .before .before .before .read-image .ensures),
-    (ap (λ (o : Read). o .flags) (c .before .before .before .before .before .before .before .before .before .before .read-image .ensures),
-    (ap (λ (o : Read). o .vertices) (c .before .before .before .before .before .before .before .before .before .before .read-image .ensures),
-    (ap (λ (o : Read). o .coordinates) (c .before .before .before .before .before .before .before .before .before .before .read-image .ensures),
-    ap (λ (o : Read). o .rows) (c .before .before .before .before .before .before .before .before .before .before .read-image .ensures)))))
+returns c = (
+  c .hand-on .ensures ∙ ap (λ (o : Read). flatOf (o .answer)) (c .before .before .before .before .before .before .before .before .before .before .read-image .ensures),
+  (
+    ap (λ (o : Read). o .flags) (c .before .before .before .before .before .before .before .before .before .before .read-image .ensures),
+    (
+      ap (λ (o : Read). o .vertices) (c .before .before .before .before .before .before .before .before .before .before .read-image .ensures),
+      (
+        ap (λ (o : Read). o .coordinates) (c .before .before .before .before .before .before .before .before .before .before .read-image .ensures),
+        ap (λ (o : Read). o .rows) (c .before .before .before .before .before .before .before .before .before .before .read-image .ensures),
+      ),
+    ),
+  ),
+)
 
 pub inkcapper-read-image-spec : {M : Type 1} → statement M
 inkcapper-read-image-spec =

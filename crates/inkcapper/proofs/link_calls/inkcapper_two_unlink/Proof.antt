@@ -16,9 +16,10 @@ same-length : tie.Need-same-length
 same-length c = search needs
 
 returns : tie.Need-returns
-returns c =
-    (c .hand-on .ensures ∙ ap (λ (o : Out). flatOf (o .answer)) (c .before .before .before .before .two-unlink .ensures),
-    ap (λ (o : Out). o .rows) (c .before .before .before .before .two-unlink .ensures))
+returns c = (
+  c .hand-on .ensures ∙ ap (λ (o : Out). flatOf (o .answer)) (c .before .before .before .before .two-unlink .ensures),
+  ap (λ (o : Out). o .rows) (c .before .before .before .before .two-unlink .ensures),
+)
 
 pub inkcapper-two-unlink-spec : {M : Type 1} → statement M
 inkcapper-two-unlink-spec =

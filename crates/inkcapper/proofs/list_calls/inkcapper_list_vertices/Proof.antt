@@ -22,11 +22,16 @@ same-length-3 : tie.Need-same-length-3
 same-length-3 c = search needs
 
 returns : tie.Need-returns
-returns c =
-    (c .hand-on .ensures ∙ ap (λ (o : ListLeft). flatOf (o .answer)) (c .before .before .before .before .before .before .before .before .list-vertices .ensures),
-    (ap (λ (o : ListLeft). o .marks) (c .before .before .before .before .before .before .before .before .list-vertices .ensures),
-    (ap (λ (o : ListLeft). o .queue) (c .before .before .before .before .before .before .before .before .list-vertices .ensures),
-    ap (λ (o : ListLeft). o .output) (c .before .before .before .before .before .before .before .before .list-vertices .ensures))))
+returns c = (
+  c .hand-on .ensures ∙ ap (λ (o : ListLeft). flatOf (o .answer)) (c .before .before .before .before .before .before .before .before .list-vertices .ensures),
+  (
+    ap (λ (o : ListLeft). o .marks) (c .before .before .before .before .before .before .before .before .list-vertices .ensures),
+    (
+      ap (λ (o : ListLeft). o .queue) (c .before .before .before .before .before .before .before .before .list-vertices .ensures),
+      ap (λ (o : ListLeft). o .output) (c .before .before .before .before .before .before .before .before .list-vertices .ensures),
+    ),
+  ),
+)
 
 pub inkcapper-list-vertices-spec : {M : Type 1} → statement M
 inkcapper-list-vertices-spec =

@@ -19,10 +19,13 @@ same-length-2 : tie.Need-same-length-2
 same-length-2 c = search needs
 
 returns : tie.Need-returns
-returns c =
-    (c .hand-on .ensures ∙ ap (λ (o : Left). flatOf (o .answer)) (c .before .before .before .before .before .before .orbit-custom .ensures),
-    (ap (λ (o : Left). o .marks) (c .before .before .before .before .before .before .orbit-custom .ensures),
-    ap (λ (o : Left). o .output) (c .before .before .before .before .before .before .orbit-custom .ensures)))
+returns c = (
+  c .hand-on .ensures ∙ ap (λ (o : Left). flatOf (o .answer)) (c .before .before .before .before .before .before .orbit-custom .ensures),
+  (
+    ap (λ (o : Left). o .marks) (c .before .before .before .before .before .before .orbit-custom .ensures),
+    ap (λ (o : Left). o .output) (c .before .before .before .before .before .before .orbit-custom .ensures),
+  ),
+)
 
 pub inkcapper-orbit-custom-spec : {M : Type 1} → statement M
 inkcapper-orbit-custom-spec =

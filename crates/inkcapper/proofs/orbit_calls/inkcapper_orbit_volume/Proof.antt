@@ -19,10 +19,13 @@ same-length-2 : tie.Need-same-length-2
 same-length-2 c = search needs
 
 returns : tie.Need-returns
-returns c =
-    (c .hand-on .ensures ∙ ap (λ (o : Left). flatOf (o .answer)) (c .before .before .before .before .before .before .orbit .ensures),
-    (ap (λ (o : Left). o .marks) (c .before .before .before .before .before .before .orbit .ensures),
-    ap (λ (o : Left). o .output) (c .before .before .before .before .before .before .orbit .ensures)))
+returns c = (
+  c .hand-on .ensures ∙ ap (λ (o : Left). flatOf (o .answer)) (c .before .before .before .before .before .before .orbit .ensures),
+  (
+    ap (λ (o : Left). o .marks) (c .before .before .before .before .before .before .orbit .ensures),
+    ap (λ (o : Left). o .output) (c .before .before .before .before .before .before .orbit .ensures),
+  ),
+)
 
 pub inkcapper-orbit-volume-spec : {M : Type 1} → statement M
 inkcapper-orbit-volume-spec =

@@ -25,12 +25,19 @@ same-length-4 : tie.Need-same-length-4
 same-length-4 c = search needs
 
 returns : tie.Need-returns
-returns c =
-    (c .hand-on .ensures ∙ ap (λ (o : SewLeft). flatOf (o .answer)) (c .before .before .before .before .before .before .before .before .before .before .one-sew .ensures),
-    (ap (λ (o : SewLeft). o .rows) (c .before .before .before .before .before .before .before .before .before .before .one-sew .ensures),
-    (ap (λ (o : SewLeft). o .marks) (c .before .before .before .before .before .before .before .before .before .before .one-sew .ensures),
-    (ap (λ (o : SewLeft). o .queue) (c .before .before .before .before .before .before .before .before .before .before .one-sew .ensures),
-    ap (λ (o : SewLeft). o .plan) (c .before .before .before .before .before .before .before .before .before .before .one-sew .ensures)))))
+returns c = (
+  c .hand-on .ensures ∙ ap (λ (o : SewLeft). flatOf (o .answer)) (c .before .before .before .before .before .before .before .before .before .before .one-sew .ensures),
+  (
+    ap (λ (o : SewLeft). o .rows) (c .before .before .before .before .before .before .before .before .before .before .one-sew .ensures),
+    (
+      ap (λ (o : SewLeft). o .marks) (c .before .before .before .before .before .before .before .before .before .before .one-sew .ensures),
+      (
+        ap (λ (o : SewLeft). o .queue) (c .before .before .before .before .before .before .before .before .before .before .one-sew .ensures),
+        ap (λ (o : SewLeft). o .plan) (c .before .before .before .before .before .before .before .before .before .before .one-sew .ensures),
+      ),
+    ),
+  ),
+)
 
 pub inkcapper-one-sew-spec : {M : Type 1} → statement M
 inkcapper-one-sew-spec =

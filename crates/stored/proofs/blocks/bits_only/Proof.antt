@@ -20,7 +20,7 @@ shared-slice-read-if1 : tie.Need-shared-slice-read-if1 Inv-loop μ-loop
 shared-slice-read-if1 c = omega arith
 
 returns : tie.Need-returns Inv-loop μ-loop
-returns c = bits-bad _ _ _ (omega arith) (c .if1 .taken) ∙ sym (c .before .before .before .loop .inv .2)
+returns c = bits-bad _ _ _ (omega arith) (omega arith) ∙ sym (c .before .before .before .loop .inv .2)
 
 add-at : tie.Need-add-at Inv-loop μ-loop
 add-at c = omega arith
@@ -29,7 +29,7 @@ loop-less : tie.Need-loop-less Inv-loop μ-loop
 loop-less c = omega arith
 
 loop-again : tie.Need-loop-again Inv-loop μ-loop
-loop-again c = (omega arith, omega arith, c .before .before .before .loop .inv .2 ∙ bits-next _ _ _ (omega arith) (c .if1 .left))
+loop-again c = (omega arith, omega arith, c .before .before .before .loop .inv .2 ∙ bits-next _ _ _ (omega arith) (omega arith))
 
 returns-2 : tie.Need-returns-2 Inv-loop μ-loop
 returns-2 c = bits-end _ _ _ (omega arith) ∙ sym (c .before .loop .inv .2)

@@ -1,4 +1,5 @@
 -- `blocks::flags_test` meets its contract: each return is one of the cases of `flagsTest`. Assumes nothing.
+use native.Mathlib.Omega.{arith}
 use mathlib.Core.Path.{sym, _∙_}
 use borrow.Author.Tests.{not-true, not-false}
 use Rattle.stored.proofs.FlagLaws.{flags-null, flags-bits, flags-pass}
@@ -22,16 +23,16 @@ shared-slice-read-if1 : tie.Need-shared-slice-read-if1
 shared-slice-read-if1 c = search needs
 
 returns : tie.Need-returns
-returns c = flags-null _ _ _ _ (c .before .before .before .flag-offset .ensures) (c .before .before .vertex-offset .ensures) (c .if1 .taken)
+returns c = flags-null _ _ _ _ (c .before .before .before .flag-offset .ensures) (c .before .before .vertex-offset .ensures) (omega arith)
 
 bits-only-requires : tie.Need-bits-only-requires
 bits-only-requires c κs = search needs
 
 returns-2 : tie.Need-returns-2
-returns-2 c = flags-bits _ _ _ _ (c .before .before .before .before .before .flag-offset .ensures) (c .before .before .before .before .vertex-offset .ensures) (c .before .before .if1 .left) (sym (c .before .bits-only .ensures) ∙ not-true _ (c .if2 .taken))
+returns-2 c = flags-bits _ _ _ _ (c .before .before .before .before .before .flag-offset .ensures) (c .before .before .before .before .vertex-offset .ensures) (omega arith) (sym (c .before .bits-only .ensures) ∙ not-true _ (c .if2 .taken))
 
 returns-3 : tie.Need-returns-3
-returns-3 c = flags-pass _ _ _ _ (c .before .before .before .before .before .flag-offset .ensures) (c .before .before .before .before .vertex-offset .ensures) (c .before .before .if1 .left) (sym (c .before .bits-only .ensures) ∙ not-false _ (c .if2 .left))
+returns-3 c = flags-pass _ _ _ _ (c .before .before .before .before .before .flag-offset .ensures) (c .before .before .before .before .vertex-offset .ensures) (omega arith) (sym (c .before .bits-only .ensures) ∙ not-false _ (c .if2 .left))
 
 pub flags-test-spec : {M : Type 1} → statement M
 flags-test-spec =

@@ -6,7 +6,7 @@ use Rattle.stored.proofs.header.start_test.Statement.{statement}
 use Rattle.stored.proofs.header.start_test.Tie as tie
 
 returns : tie.Need-returns
-returns c = start-short _ (c .if1 .taken)
+returns c = start-short _ (omega arith)
 
 word-at-requires : tie.Need-word-at-requires
 word-at-requires c κs = search needs

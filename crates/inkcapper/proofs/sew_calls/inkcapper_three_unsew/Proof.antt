@@ -1,0 +1,52 @@
+-- `sew_calls::inkcapper_three_unsew` meets its contract: the call's answer, handed on. Assumes nothing.
+use mathlib.Core.Path.{_∙_, ap}
+use Rattle.sews.specs.Calls.{SewLeft}
+use Rattle.inkcapper.specs.Flat.{flatOf}
+use borrow.Author.Needs.{needs}
+use Rattle.inkcapper.proofs.sew_calls.inkcapper_three_unsew.Statement.{statement}
+use Rattle.inkcapper.proofs.sew_calls.inkcapper_three_unsew.Tie as tie
+
+three-unsew-requires : tie.Need-three-unsew-requires
+three-unsew-requires c κs = search needs
+
+hand-on-requires : tie.Need-hand-on-requires
+hand-on-requires c κs = search needs
+
+same-length : tie.Need-same-length
+same-length c = search needs
+
+same-length-2 : tie.Need-same-length-2
+same-length-2 c = search needs
+
+same-length-3 : tie.Need-same-length-3
+same-length-3 c = search needs
+
+same-length-4 : tie.Need-same-length-4
+same-length-4 c = search needs
+
+returns : tie.Need-returns
+returns c = (
+  c .hand-on .ensures ∙ ap (λ (o : SewLeft). flatOf (o .answer)) (c .before .before .before .before .before .before .before .before .before .before .three-unsew .ensures),
+  (
+    ap (λ (o : SewLeft). o .rows) (c .before .before .before .before .before .before .before .before .before .before .three-unsew .ensures),
+    (
+      ap (λ (o : SewLeft). o .marks) (c .before .before .before .before .before .before .before .before .before .before .three-unsew .ensures),
+      (
+        ap (λ (o : SewLeft). o .queue) (c .before .before .before .before .before .before .before .before .before .before .three-unsew .ensures),
+        ap (λ (o : SewLeft). o .plan) (c .before .before .before .before .before .before .before .before .before .before .three-unsew .ensures),
+      ),
+    ),
+  ),
+)
+
+pub inkcapper-three-unsew-spec : {M : Type 1} → statement M
+inkcapper-three-unsew-spec =
+    tie.close
+    (tie.spec
+    three-unsew-requires
+    hand-on-requires
+    same-length
+    same-length-2
+    same-length-3
+    same-length-4
+    returns)

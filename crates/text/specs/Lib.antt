@@ -1,0 +1,3 @@
+-- The definitions of text.
+--   Texts   numbers in decimal, text in a buffer, the lines of a report
+pub mod Texts

@@ -1,0 +1,15 @@
+-- The laws of the 3-unsew.
+--   Relink      a 3-link after a 3-unlink gives back every row
+--   PairLaws    the splits of one pair
+--   LegLaws     the legs, turn by turn
+--   SplitLaws   the plan, part by part
+--   UnsewLaws   how a 3-unsew ends, and that it leaves a map
+--   Ends        no leg is cut short
+--   Agree       the proved examples
+pub mod Relink
+pub mod PairLaws
+pub mod LegLaws
+pub mod SplitLaws
+pub mod UnsewLaws
+pub mod Ends
+pub mod Agree

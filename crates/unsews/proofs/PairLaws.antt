@@ -1,0 +1,56 @@
+-- The splits of one pair, from what the code has read.
+--   far-is, far-below     the far end of a dart, which is a dart
+--   item-of               a split of two cells, from their identifiers
+--   open-none, open-some  the split at the near end of l: not asked for, or asked for
+--   pair-is               the three together
+-- Assumes nothing.
+use Prim.Native.Nat.{ℕ, _<_}
+use mathlib.Core.Path.{_≡_, refl, sym, ap, _∙_}
+use mathlib.Core.Logic.{_≢_}
+use mathlib.Core.Bool.{Bool, true}
+use mathlib.Core.List.{List, []}
+use lib.Dec.{eqb}
+use borrow.Author.Tests.{eq-eqb, ne-eqb}
+use Rattle.betas.specs.Betas.{beta, darts}
+use Rattle.betas.specs.Maps.{WellFormed}
+use Rattle.plan.specs.declared.Class.{Class}
+use Rattle.plan.specs.declared.Class.the-variants.{Vertex, Edge}
+use Rattle.plan.specs.declared.Kind.the-variants.{Split}
+use Rattle.plan.specs.declared.Entry.{Entry}
+use Rattle.sews.specs.Ids.{vertexId, edgeId}
+use Rattle.sews.specs.declared.items.Item.{Item}
+use Rattle.sews.specs.declared.items.Items.{Items}
+use Rattle.sews.specs.Entries.{entriesIf, listed, allOf, larger}
+use Rattle.sews.proofs.EntryLaws.{none-asked, three-items}
+use Rattle.sews.proofs.SideLaws.{larger-below}
+use Rattle.unsews.specs.Pairs.{threeFar, pairEntries}
+
+module _ (rows : List ℕ) (d : ℕ) where
+  pub far-is : (b₁ b₂ far : ℕ) → b₁ ≡ beta rows 1 d → b₂ ≡ beta rows 2 d → far ≡ larger b₁ b₂ → far ≡ threeFar rows d
+  unfolding threeFar
+  far-is b₁ b₂ far p₁ p₂ q = q ∙ ap (λ (x : ℕ). larger x b₂) p₁ ∙ ap (λ (x : ℕ). larger (beta rows 1 d) x) p₂
+
+  pub far-below : WellFormed rows → threeFar rows d < darts rows
+  unfolding threeFar
+  far-below w = larger-below (darts rows) (beta rows 1 d) (beta rows 2 d) (w .below 1 d) (w .below 2 d)
+
+pub item-of : (k : Class) (a b x y : ℕ) (es : List Entry) → a ≡ x → b ≡ y → es ≡ entriesIf true k Split a b → es ≡ entriesIf true k Split x y
+item-of k a b x y es p q e = e ∙ ap (λ (z : ℕ). entriesIf true k Split z b) p ∙ ap (λ (z : ℕ). entriesIf true k Split x z) q
+
+module _ (rows : List ℕ) (l b₀ : ℕ) (e : b₀ ≡ beta rows 0 l) where
+  pub open-none : (x y : ℕ) → b₀ ≢ 0 → [] ≡ entriesIf (eqb (beta rows 0 l) 0) Vertex Split x y
+  open-none x y n = none-asked (eqb (beta rows 0 l) 0) Vertex Split x y (ne-eqb (beta rows 0 l) 0 (λ z. n (e ∙ z)))
+
+  pub open-some : (r far : ℕ) (es : List Entry) → b₀ ≡ 0 → far ≡ threeFar rows r → es ≡ entriesIf true Vertex Split (vertexId rows l) (vertexId rows far) →
+      es ≡ entriesIf (eqb (beta rows 0 l) 0) Vertex Split (vertexId rows l) (vertexId rows (threeFar rows r))
+  open-some r far es z f q =
+      q ∙ ap (λ (x : ℕ). entriesIf true Vertex Split (vertexId rows l) (vertexId rows x)) f
+      ∙ ap (λ (b : Bool). entriesIf b Vertex Split (vertexId rows l) (vertexId rows (threeFar rows r))) (sym (eq-eqb (beta rows 0 l) 0 (sym e ∙ z)))
+
+pub pair-is : (rows : List ℕ) (l r far : ℕ) (a b d : Item) → listed a ≡ entriesIf true Edge Split (edgeId rows l) (edgeId rows r) → far ≡ threeFar rows l →
+    listed b ≡ entriesIf true Vertex Split (vertexId rows far) (vertexId rows r) →
+    listed d ≡ entriesIf (eqb (beta rows 0 l) 0) Vertex Split (vertexId rows l) (vertexId rows (threeFar rows r)) →
+    allOf (record { first = a; second = b; third = d }) ≡ pairEntries rows l r
+unfolding pairEntries
+pair-is rows l r far a b d p f q s =
+    three-items a b d _ _ _ p (q ∙ ap (λ (x : ℕ). entriesIf true Vertex Split (vertexId rows x) (vertexId rows r)) f) s

@@ -1,0 +1,66 @@
+-- `calls::three_unsew_done` meets its contract: wiped scratch, and the core on the first n places of it. Assumes nothing.
+use mathlib.Core.Path.{sym, ap, _∙_}
+use Rattle.betas.specs.Betas.{darts}
+use Rattle.orbits.proofs.ScratchLaws.{wiped-n, wiped-lent}
+use Rattle.sews.proofs.CallLaws.{scratch-lent, sew-left}
+use borrow.Author.Needs.{needs}
+use Rattle.unsews.proofs.calls.three_unsew_done.Statement.{statement}
+use Rattle.unsews.proofs.calls.three_unsew_done.Tie as tie
+
+wipe-marks-requires : tie.Need-wipe-marks-requires
+wipe-marks-requires c κs = search needs
+
+wipe-queue-requires : tie.Need-wipe-queue-requires
+wipe-queue-requires c κs = search needs
+
+slice-relend-prefix-three-unsew-on : tie.Need-slice-relend-prefix-three-unsew-on
+slice-relend-prefix-three-unsew-on c = search needs
+
+slice-aggregate-three-unsew-on : tie.Need-slice-aggregate-three-unsew-on
+slice-aggregate-three-unsew-on c = sym (wiped-n (darts (c .before .before .before .before .before .before .before .before .before .before .before .before .before .before .args .rows .now)) (c .before .before .before .before .before .before .before .before .before .before .before .before .before .before .args .marks .now) (c .before .before .before .before .before .before .before .before .wipe-marks .last .0) (c .before .before .before .before .before .before .before .before .wipe-marks .ensures))
+
+slice-relend-prefix-three-unsew-on-2 : tie.Need-slice-relend-prefix-three-unsew-on-2
+slice-relend-prefix-three-unsew-on-2 c = search needs
+
+slice-aggregate-three-unsew-on-2 : tie.Need-slice-aggregate-three-unsew-on-2
+slice-aggregate-three-unsew-on-2 c = sym (wiped-n (darts (c .before .before .before .before .before .before .before .before .before .before .before .before .before .before .before .args .rows .now)) (c .before .before .before .before .before .before .before .before .before .before .before .before .before .before .before .args .queue .now) (c .before .before .before .before .before .wipe-queue .last .0) (c .before .before .before .before .before .wipe-queue .ensures))
+
+three-unsew-on-requires : tie.Need-three-unsew-on-requires
+three-unsew-on-requires c κs = (c .before .before .before .before .before .before .before .before .before .before .before .before .before .before .before .before .pre .0, c .before .before .before .before .before .before .before .before .before .before .before .before .before .before .before .before .pre .3, scratch-lent _ _ _ _ _ (c .before .before .before .before .before .before .before .before .before .before .wipe-marks .ensures) (c .before .before .before .before .before .before .wipe-queue .ensures))
+
+same-length : tie.Need-same-length
+same-length c = search needs
+
+same-length-2 : tie.Need-same-length-2
+same-length-2 c = search needs
+
+same-length-3 : tie.Need-same-length-3
+same-length-3 c = search needs
+
+same-length-4 : tie.Need-same-length-4
+same-length-4 c = search needs
+
+returns : tie.Need-returns
+returns c =
+    let n = (darts (c .before .before .before .before .before .before .before .before .before .before .before .before .before .before .before .before .before .before .before .before .before .before .before .before .before .args .rows .now)) in
+    let e = c .before .before .before .before .before .before .before .before .three-unsew-on .ensures in
+    sew-left n (c .before .before .before .before .before .before .before .before .before .before .before .before .before .before .before .before .before .before .before .before .before .before .before .before .before .args .marks .now) (c .before .before .before .before .before .before .before .before .before .before .before .before .before .before .before .before .before .before .before .before .before .before .before .before .before .args .queue .now) _ _ _ _ _ _ (e .0)
+    (wiped-lent n (c .before .before .before .before .before .before .before .before .before .before .before .before .before .before .before .before .before .before .before .before .before .before .before .before .before .args .marks .now) (c .before .before .before .before .before .before .before .before .before .before .before .before .before .before .before .before .before .before .before .wipe-marks .last .0) (c .before .before .before .before .before .before .before .before .before .before .before .before .before .before .before .before .before .before .before .wipe-marks .ensures) _ (e .1 .0))
+    (wiped-lent n (c .before .before .before .before .before .before .before .before .before .before .before .before .before .before .before .before .before .before .before .before .before .before .before .before .before .args .queue .now) (c .before .before .before .before .before .before .before .before .before .before .before .before .before .before .before .wipe-queue .last .0) (c .before .before .before .before .before .before .before .before .before .before .before .before .before .before .before .wipe-queue .ensures) _ (e .1 .1))
+
+pub three-unsew-done-spec : {M : Type 1} → statement M
+three-unsew-done-spec =
+    tie.close
+    (tie.spec
+    wipe-marks-requires
+    wipe-queue-requires
+    slice-relend-prefix-three-unsew-on
+    slice-aggregate-three-unsew-on
+    slice-relend-prefix-three-unsew-on-2
+    slice-aggregate-three-unsew-on-2
+    three-unsew-on-requires
+    same-length
+    same-length-2
+    same-length-3
+    same-length-4
+    returns)

@@ -1,0 +1,30 @@
+-- `tally::pair_count` meets its contract. Assumes nothing.
+use Rattle.unsews.proofs.LegLaws.{pair-length}
+use borrow.Author.Needs.{needs}
+use Rattle.unsews.proofs.tally.pair_count.Statement.{statement}
+use Rattle.unsews.proofs.tally.pair_count.Tie as tie
+
+pair-items-requires : tie.Need-pair-items-requires
+pair-items-requires c κs = search needs
+
+count-requires : tie.Need-count-requires
+count-requires c κs = search needs
+
+same-length : tie.Need-same-length
+same-length c = search needs
+
+same-length-2 : tie.Need-same-length-2
+same-length-2 c = search needs
+
+returns : tie.Need-returns
+returns c = ((pair-length _ _ _ (c .count .ensures .0) (c .before .before .before .before .before .pair-items .ensures .0), c .count .ensures .1), c .before .before .before .before .before .pair-items .ensures .1)
+
+pub pair-count-spec : {M : Type 1} → statement M
+pair-count-spec =
+    tie.close
+    (tie.spec
+    pair-items-requires
+    count-requires
+    same-length
+    same-length-2
+    returns)

@@ -1,0 +1,159 @@
+// The plan of a 3-unsew: the face split, then the splits of each pair in the order of the walk.
+use crate::pairs::pair_items;
+use crate::tally::first_tally;
+use crate::tally::leg_over;
+use crate::tally::whole_tally;
+use betas::betas::beta_at;
+use betas::error::Answer;
+use betas::error::Refusal;
+use plan::Class;
+use sews::items::put_items;
+ghost use mathlib.Core.Path.{_≡_};
+ghost use mathlib.Core.List.{_∷_, [], _++_};
+ghost use Prim.Native.Nat.{ℕ, _+_, _*_, _/_, _≤_, _<_};
+ghost use lib.ListN.{length, getD};
+ghost use Rattle.betas.specs.Betas.{beta, darts};
+ghost use Rattle.betas.specs.Maps.{WellFormed};
+ghost use Rattle.plan.specs.Plan.{width};
+ghost use Rattle.sews.specs.Ids.{Scratch};
+ghost use Rattle.sews.specs.Entries.{writtenAll};
+ghost use Rattle.sews.specs.Sewn.{settles, settled};
+ghost use Rattle.unsews.specs.Pairs.{pairEntries, entriesFrom};
+ghost use Rattle.unsews.specs.Three.{firstEntries, backEntries, splitsOf, threeEntries};
+
+// Writes the splits of one pair from number `at` of the plan on, and gives back the number behind them.
+fn write_pair(
+    rows: &[u32],
+    marks: &mut [u8],
+    queue: &mut [u32],
+    plan: &mut [u32],
+    at: usize,
+    l: u32,
+    r: u32,
+) -> usize
+    requires { ⌜ WellFormed (now rows) × (l < darts (now rows)) × (r < darts (now rows)) × Scratch (darts (now rows)) (now marks) (now queue) × (width * (at + length (pairEntries (now rows) l r)) ≤ length (now plan)) ⌝ }
+    ensures { λ k. ⌜ (k ≡ at + length (pairEntries (now (rows .entry)) l r)) × (now (plan .exit) ≡ writtenAll (now (plan .entry)) at (pairEntries (now (rows .entry)) l r)) ⌝ }
+    ensures { λ k. ⌜ (now (marks .exit) ≡ now (marks .entry)) × (now (queue .exit) ≡ now (queue .entry)) ⌝ }
+{
+    let items = pair_items(rows, marks, queue, l, r);
+    put_items(plan, at, items)
+}
+
+// Writes the splits of the pairs of a leg, from l0 and r0 on, and gives back the number behind them.
+fn write_leg(
+    rows: &[u32],
+    marks: &mut [u8],
+    queue: &mut [u32],
+    plan: &mut [u32],
+    i: u32,
+    j: u32,
+    stop: u32,
+    at0: usize,
+    l0: u32,
+    r0: u32,
+) -> usize
+    requires { ⌜ WellFormed (now rows) × (i < 3) × (j < 3) × (l0 < darts (now rows)) × (r0 < darts (now rows)) × Scratch (darts (now rows)) (now marks) (now queue) × (width * (at0 + length (entriesFrom (length (now rows)) (now rows) i j stop l0 r0)) ≤ length (now plan)) ⌝ }
+    ensures { λ k. ⌜ (k ≡ at0 + length (entriesFrom (length (now (rows .entry))) (now (rows .entry)) i j stop l0 r0)) × (now (plan .exit) ≡ writtenAll (now (plan .entry)) at0 (entriesFrom (length (now (rows .entry))) (now (rows .entry)) i j stop l0 r0)) ⌝ }
+    ensures { λ k. ⌜ (now (marks .exit) ≡ now (marks .entry)) × (now (queue .exit) ≡ now (queue .entry)) ⌝ }
+{
+    let mut l = l0;
+    let mut r = r0;
+    let mut at = at0;
+    let mut left = rows.len();
+    while 0 < left {
+        if leg_over(l, stop) {
+            return at;
+        }
+        at = write_pair(rows, marks, queue, plan, at, l, r);
+        l = beta_at(rows, i, l);
+        r = beta_at(rows, j, r);
+        left -= 1;
+    }
+    at
+}
+
+// Writes the splits of the second leg, where the face is open.
+fn write_back(
+    rows: &[u32],
+    marks: &mut [u8],
+    queue: &mut [u32],
+    plan: &mut [u32],
+    opened: bool,
+    at: usize,
+    ld: u32,
+    rd: u32,
+)
+    requires { ⌜ WellFormed (now rows) × (ld < darts (now rows)) × (rd < darts (now rows)) × Scratch (darts (now rows)) (now marks) (now queue) × (width * (at + length (backEntries (now rows) ld rd opened)) ≤ length (now plan)) ⌝ }
+    ensures { λ _. ⌜ now (plan .exit) ≡ writtenAll (now (plan .entry)) at (backEntries (now (rows .entry)) ld rd opened) ⌝ }
+    ensures { λ _. ⌜ (now (marks .exit) ≡ now (marks .entry)) × (now (queue .exit) ≡ now (queue .entry)) ⌝ }
+{
+    if !opened {
+        return;
+    }
+    let l = beta_at(rows, 0, ld);
+    let r = beta_at(rows, 1, rd);
+    let _ = write_leg(rows, marks, queue, plan, 0, 1, 0, at, l, r);
+}
+
+// Writes the splits of ld and rd and of the first leg from number 1 of the plan on, and gives back the number behind them.
+fn write_first(
+    rows: &[u32],
+    marks: &mut [u8],
+    queue: &mut [u32],
+    plan: &mut [u32],
+    ld: u32,
+    rd: u32,
+) -> usize
+    requires { ⌜ WellFormed (now rows) × (ld < darts (now rows)) × (rd < darts (now rows)) × Scratch (darts (now rows)) (now marks) (now queue) × (width * (1 + length (pairEntries (now rows) ld rd) + length (firstEntries (now rows) ld rd)) ≤ length (now plan)) ⌝ }
+    ensures { λ k. ⌜ (k ≡ 1 + length (pairEntries (now (rows .entry)) ld rd ++ firstEntries (now (rows .entry)) ld rd)) × (now (plan .exit) ≡ writtenAll (now (plan .entry)) 1 (pairEntries (now (rows .entry)) ld rd ++ firstEntries (now (rows .entry)) ld rd)) ⌝ }
+    ensures { λ k. ⌜ (now (marks .exit) ≡ now (marks .entry)) × (now (queue .exit) ≡ now (queue .entry)) ⌝ }
+{
+    let at = write_pair(rows, marks, queue, plan, 1, ld, rd);
+    let l = beta_at(rows, 1, ld);
+    let r = beta_at(rows, 0, rd);
+    write_leg(rows, marks, queue, plan, 1, 0, ld, at, l, r)
+}
+
+// Writes the face split and the splits of every pair.
+fn write_splits(
+    rows: &[u32],
+    marks: &mut [u8],
+    queue: &mut [u32],
+    plan: &mut [u32],
+    opened: bool,
+    left: u32,
+    right: u32,
+    ld: u32,
+    rd: u32,
+)
+    requires { ⌜ WellFormed (now rows) × (ld < darts (now rows)) × (rd < darts (now rows)) × Scratch (darts (now rows)) (now marks) (now queue) × (width * length (splitsOf (now rows) ld rd opened left right) ≤ length (now plan)) ⌝ }
+    ensures { λ _. ⌜ now (plan .exit) ≡ writtenAll (now (plan .entry)) 0 (splitsOf (now (rows .entry)) ld rd opened left right) ⌝ }
+    ensures { λ _. ⌜ (now (marks .exit) ≡ now (marks .entry)) × (now (queue .exit) ≡ now (queue .entry)) ⌝ }
+{
+    plan::write_entry(plan, 0, plan::split(Class::Face, left, right));
+    let at = write_first(rows, marks, queue, plan, ld, rd);
+    write_back(rows, marks, queue, plan, opened, at, ld, rd);
+}
+
+// Writes the plan of a 3-unsew from its start and answers rd with the count; or refuses, and leaves the plan as it was.
+pub(crate) fn settle_splits(
+    rows: &[u32],
+    marks: &mut [u8],
+    queue: &mut [u32],
+    plan: &mut [u32],
+    ld: u32,
+    rd: u32,
+) -> Answer
+    requires { ⌜ WellFormed (now rows) × (ld < darts (now rows)) × (rd < darts (now rows)) × Scratch (darts (now rows)) (now marks) (now queue) ⌝ }
+    ensures { λ a. ⌜ settles a (now (plan .exit)) ≡ settled (now (plan .entry)) rd (threeEntries (now (rows .entry)) ld rd) ⌝ }
+    ensures { λ a. ⌜ (now (marks .exit) ≡ now (marks .entry)) × (now (queue .exit) ≡ now (queue .entry)) ⌝ }
+{
+    let t1 = first_tally(rows, marks, queue, ld, rd);
+    let t = whole_tally(rows, marks, queue, ld, rd, t1);
+    let k = t.count;
+    if plan::room(plan) < k {
+        return Answer::Refused(Refusal::PlanRoom(k));
+    }
+    write_splits(rows, marks, queue, plan, t1.l == 0, t.left, t.right, ld, rd);
+    Answer::Done(rd, k)
+}

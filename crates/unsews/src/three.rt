@@ -1,0 +1,41 @@
+// The 3-unsew. Ports three_unsew_tx of dim3/sews/three.rs.
+use crate::splits::settle_splits;
+use betas::error::Answer;
+use betas::error::is_done;
+use links::three::three_link_on;
+use links::three::three_unlink_on;
+use sews::one_links::dart_of;
+ghost use mathlib.Core.Path.{_≡_};
+ghost use Prim.Native.Nat.{ℕ, _+_, _*_, _/_, _≤_, _<_};
+ghost use lib.ListN.{length, getD};
+ghost use Rattle.betas.specs.Betas.{beta, darts};
+ghost use Rattle.betas.specs.Maps.{WellFormed};
+ghost use Rattle.betas.specs.Guards.{Dart};
+ghost use Rattle.sews.specs.Ids.{Scratch};
+ghost use Rattle.sews.specs.Sewn.{leaves, sewn};
+ghost use Rattle.unsews.specs.Three.{threeUnsewOn};
+
+// The 3-unsew of a real dart of a map.
+pub fn three_unsew_on(
+    rows: &mut [u32],
+    marks: &mut [u8],
+    queue: &mut [u32],
+    plan: &mut [u32],
+    ld: u32,
+) -> Answer
+    requires { ⌜ WellFormed (now rows) × Dart (darts (now rows)) 1 ld × Scratch (darts (now rows)) (now marks) (now queue) ⌝ }
+    ensures { λ a. ⌜ leaves a (now (rows .exit)) (now (plan .exit)) ≡ sewn (now (rows .entry)) (now (plan .entry)) (threeUnsewOn (now (rows .entry)) ld) ⌝ }
+    ensures { λ a. ⌜ (now (marks .exit) ≡ now (marks .entry)) × (now (queue .exit) ≡ now (queue .entry)) ⌝ }
+{
+    let a = three_unlink_on(rows, ld);
+    if !is_done(a) {
+        return a;
+    }
+    let rd = dart_of(a);
+    let b = settle_splits(rows, marks, queue, plan, ld, rd);
+    if !is_done(b) {
+        let _ = three_link_on(rows, ld, rd);
+        return b;
+    }
+    b
+}

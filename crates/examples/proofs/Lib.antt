@@ -1,0 +1,2 @@
+-- `Agree`: the one claim over the table of document 01's proved examples.
+pub mod Agree

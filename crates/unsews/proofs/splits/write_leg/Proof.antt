@@ -15,13 +15,13 @@ use Rattle.unsews.proofs.splits.write_leg.Statement.{statement}
 use Rattle.unsews.proofs.splits.write_leg.Tie as tie
 
 abbrev Inv-loop : tie.InvT-loop
-Inv-loop = λ rows marks₀ queue₀ plan₀ i j stop at0 l0 r0 l₀ r₀ at₀ left₀ marks queue plan l r at left.
+Inv-loop rows marks₀ queue₀ plan₀ i j stop at0 l0 r0 l₀ r₀ at₀ left₀ marks queue plan l r at left =
     (marks ≡ marks₀) × (queue ≡ queue₀) × (length plan ≡ length plan₀) × (l < darts rows) × (r < darts rows)
     × (at + length (entriesFrom left rows i j stop l r) ≡ at0 + length (entriesFrom (length rows) rows i j stop l0 r0))
     × (writtenAll plan at (entriesFrom left rows i j stop l r) ≡ writtenAll plan₀ at0 (entriesFrom (length rows) rows i j stop l0 r0))
 
 abbrev μ-loop : tie.MeasureT-loop
-μ-loop = λ rows marks₀ queue₀ plan₀ i j stop at0 l0 r0 l₀ r₀ at₀ left₀ marks queue plan l r at left. left
+μ-loop rows marks₀ queue₀ plan₀ i j stop at0 l0 r0 l₀ r₀ at₀ left₀ marks queue plan l r at left = left
 
 loop-holds : tie.Need-loop-holds Inv-loop μ-loop
 loop-holds c = (refl, refl, refl, c .before .before .before .before .pre .3, c .before .before .before .before .pre .4, refl, refl)

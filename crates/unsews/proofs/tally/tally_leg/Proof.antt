@@ -13,12 +13,12 @@ use Rattle.unsews.proofs.tally.tally_leg.Statement.{statement}
 use Rattle.unsews.proofs.tally.tally_leg.Tie as tie
 
 abbrev Inv-loop : tie.InvT-loop
-Inv-loop = λ rows marks₀ queue₀ i j stop t₀ left₀ marks queue t left.
+Inv-loop rows marks₀ queue₀ i j stop t₀ left₀ marks queue t left =
     (marks ≡ marks₀) × (queue ≡ queue₀) × (t .l < darts rows) × (t .r < darts rows) × (t .count + 3 * left ≤ t₀ .count + 3 * length rows)
     × (tallyFrom left rows i j stop t ≡ tallyFrom (length rows) rows i j stop t₀)
 
 abbrev μ-loop : tie.MeasureT-loop
-μ-loop = λ rows marks₀ queue₀ i j stop t₀ left₀ marks queue t left. left
+μ-loop rows marks₀ queue₀ i j stop t₀ left₀ marks queue t left = left
 
 loop-holds : tie.Need-loop-holds Inv-loop μ-loop
 loop-holds c = (refl, refl, c .before .before .before .pre .3, c .before .before .before .pre .4, omega arith, refl)

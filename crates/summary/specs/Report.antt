@@ -1,0 +1,99 @@
+-- The text that the report program prints, byte for byte.
+--   valueOf x            a number after one space
+--   refusedLine a        the line of a refusal: its number and its three values
+--   usedUpTo flags k     how many of the darts 1 to k are not unused
+--   headLine n used      the line of the darts
+--   classLine name class rows flags   the line of a class of cells
+--   mapText rows flags   the five lines of a map
+--   most                 the most darts that the report takes
+--   answerOf bytes       the reader's answer to an image of at most `most` darts, its loans long enough
+--   imageText bytes      the text of an image: five lines, or one that says what refuses it
+--   reportOf more bytes  the whole report; `more` says that the input has more than 46,080 bytes
+use Prim.Native.Nat.{ℕ, zero, suc, _+_, _-_}
+use mathlib.Core.List.{List, [], _∷_, _++_}
+use mathlib.Core.Bool.{Bool, cond}
+use lib.ListN.{length, getD}
+use lib.Dec.{eqb}
+use Rattle.betas.specs.declared.error.Answer.{Answer}
+use Rattle.betas.specs.declared.error.Answer.the-variants.{Refused}
+use Rattle.betas.specs.declared.error.Refusal.the-variants.{BadImage}
+use Rattle.betas.specs.declared.error.Told.{Told}
+use Rattle.betas.specs.Answers.{isDone, andThen, tellOf}
+use Rattle.betas.specs.Betas.{darts}
+use Rattle.stored.specs.Form.{dartsOf, verticesOf, rowsOf}
+use Rattle.stored.specs.Tests.{headerTest}
+use Rattle.image.specs.Tests.{blocksTest}
+use Rattle.image.specs.Content.{flagsOf}
+use Rattle.cells.specs.declared.identifiers.Class.{Class}
+use Rattle.cells.specs.declared.identifiers.Class.the-variants.{Vertex, Edge, Face, Volume}
+use Rattle.cells.specs.Cells.{listOf}
+use Rattle.text.specs.Texts.{decimal, lineOf}
+
+unfoldable pub valueOf : ℕ → List ℕ
+valueOf x = (32 ∷ []) ++ decimal x
+
+-- "refused", "darts", " used", "vertices", "edges", "faces", "volumes"
+abbrev pub refusedWord : List ℕ
+refusedWord = 114 ∷ 101 ∷ 102 ∷ 117 ∷ 115 ∷ 101 ∷ 100 ∷ []
+
+abbrev pub dartsWord : List ℕ
+dartsWord = 100 ∷ 97 ∷ 114 ∷ 116 ∷ 115 ∷ []
+
+abbrev pub usedWord : List ℕ
+usedWord = 32 ∷ 117 ∷ 115 ∷ 101 ∷ 100 ∷ []
+
+abbrev pub verticesWord : List ℕ
+verticesWord = 118 ∷ 101 ∷ 114 ∷ 116 ∷ 105 ∷ 99 ∷ 101 ∷ 115 ∷ []
+
+abbrev pub edgesWord : List ℕ
+edgesWord = 101 ∷ 100 ∷ 103 ∷ 101 ∷ 115 ∷ []
+
+abbrev pub facesWord : List ℕ
+facesWord = 102 ∷ 97 ∷ 99 ∷ 101 ∷ 115 ∷ []
+
+abbrev pub volumesWord : List ℕ
+volumesWord = 118 ∷ 111 ∷ 108 ∷ 117 ∷ 109 ∷ 101 ∷ 115 ∷ []
+
+-- "A refusal prints as `refused 12 2 0 0`: number, three values (0 where absent)."
+unfoldable pub toldLine : Told → List ℕ
+toldLine t =
+    ((((refusedWord ++ valueOf (t .number)) ++ valueOf (t .first)) ++ valueOf (t .second)) ++ valueOf (t .third)) ++ (10 ∷ [])
+
+abbrev pub refusedLine : Answer → List ℕ
+refusedLine a = toldLine (tellOf a)
+
+-- a flag that is not 0 means unused
+unfoldable pub usedUpTo : List ℕ → ℕ → ℕ
+usedUpTo flags zero = 0
+usedUpTo flags (suc k) = usedUpTo flags k + cond (eqb (getD flags (k + 1) 0) 0) 1 0
+
+-- "n; real darts not flagged"
+unfoldable pub headLine : ℕ → ℕ → List ℕ
+headLine n used = (((dartsWord ++ valueOf n) ++ usedWord) ++ valueOf used) ++ (10 ∷ [])
+
+-- "per class the count, a colon, each identifier after one space"
+unfoldable pub classLine : List ℕ → Class → List ℕ → List ℕ → List ℕ
+classLine name class rows flags = lineOf name (listOf class rows flags) (length (listOf class rows flags))
+
+unfoldable pub mapText : List ℕ → List ℕ → List ℕ
+mapText rows flags =
+    (((headLine (darts rows) (usedUpTo flags (darts rows - 1)) ++ classLine verticesWord Vertex rows flags)
+    ++ classLine edgesWord Edge rows flags)
+    ++ classLine facesWord Face rows flags)
+    ++ classLine volumesWord Volume rows flags
+
+-- "n <= 1,024"
+abbrev pub most : ℕ
+most = 1024
+
+unfoldable pub answerOf : List ℕ → Answer
+answerOf bytes = andThen (headerTest most bytes) (blocksTest bytes (dartsOf bytes) (verticesOf bytes))
+
+unfoldable pub imageText : List ℕ → List ℕ
+imageText bytes =
+    let n = dartsOf bytes in
+    cond (isDone (answerOf bytes)) (mapText (rowsOf bytes n) (flagsOf bytes n)) (refusedLine (answerOf bytes))
+
+-- "longer input is BadImage 2 before all else"
+unfoldable pub reportOf : Bool → List ℕ → List ℕ
+reportOf more bytes = cond more (refusedLine (Refused (BadImage 2))) (imageText bytes)

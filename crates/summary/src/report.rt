@@ -1,0 +1,110 @@
+// The report: the lines of a map, and the whole text for any input.
+use crate::lines::count_used;
+use crate::lines::put_class;
+use crate::lines::put_head;
+use crate::lines::put_refusal;
+use betas::error::Answer;
+use betas::error::Refusal;
+use betas::error::is_done;
+use cells::identifiers::Class;
+use image::reader::read_within;
+use stored::form::DARTS_AT;
+use words::word_at;
+ghost use mathlib.Core.Path.{_≡_};
+ghost use Prim.Native.Nat.{ℕ, _≤_};
+ghost use lib.ListN.{length};
+ghost use Rattle.betas.specs.Betas.{darts};
+ghost use Rattle.betas.specs.Maps.{WellFormed};
+ghost use Rattle.text.specs.Texts.{put, lay};
+ghost use Rattle.summary.specs.Report.{mapText, reportOf};
+
+// The most darts of an image that the report takes.
+pub const MOST: u32 = 1024;
+
+// Writes the five lines of a map.
+fn put_map(
+    rows: &[u32],
+    flags: &[u8],
+    marks: &mut [u8],
+    queue: &mut [u32],
+    output: &mut [u32],
+    text: &mut [u8],
+) -> usize
+    requires { ⌜ WellFormed (now rows) × (darts (now rows) ≤ 1024) × (1024 ≤ length (now marks)) × (1024 ≤ length (now queue)) × (1024 ≤ length (now output)) × (darts (now rows) ≤ length (now flags)) × (24576 ≤ length (now text)) ⌝ }
+    ensures { λ r. ⌜ (put r (now (text .exit)) ≡ lay (now (text .entry)) 0 (mapText (now (rows .entry)) (now (flags .entry)))) × (r ≤ 24576) ⌝ }
+{
+    let n = rows.len() / 4;
+    let used = count_used(flags, n);
+    let h = put_head(text, 0, n, used);
+    let v = put_class(
+        rows,
+        flags,
+        marks,
+        queue,
+        output,
+        text,
+        h,
+        Class::Vertex,
+        b"vertices",
+    );
+    let e = put_class(
+        rows,
+        flags,
+        marks,
+        queue,
+        output,
+        text,
+        v,
+        Class::Edge,
+        b"edges",
+    );
+    let f = put_class(
+        rows,
+        flags,
+        marks,
+        queue,
+        output,
+        text,
+        e,
+        Class::Face,
+        b"faces",
+    );
+    put_class(
+        rows,
+        flags,
+        marks,
+        queue,
+        output,
+        text,
+        f,
+        Class::Volume,
+        b"volumes",
+    )
+}
+
+// Writes the report of an image; `more` says that the input has more bytes than are lent.
+pub fn report_text(
+    bytes: &[u8],
+    more: bool,
+    flags: &mut [u8],
+    vertices: &mut [u8],
+    coordinates: &mut [f64],
+    rows: &mut [u32],
+    marks: &mut [u8],
+    queue: &mut [u32],
+    output: &mut [u32],
+    text: &mut [u8],
+) -> usize
+    requires { ⌜ (1024 ≤ length (now flags)) × (1024 ≤ length (now vertices)) × (3072 ≤ length (now coordinates)) × (4096 ≤ length (now rows)) × (1024 ≤ length (now marks)) × (1024 ≤ length (now queue)) × (1024 ≤ length (now output)) × (24576 ≤ length (now text)) ⌝ }
+    ensures { λ r. ⌜ (put r (now (text .exit)) ≡ lay (now (text .entry)) 0 (reportOf more (now (bytes .entry)))) × (r ≤ 24576) ⌝ }
+{
+    if more {
+        return put_refusal(text, 0, Answer::Refused(Refusal::BadImage(2)));
+    }
+    let a = read_within(bytes, MOST, flags, vertices, coordinates, rows);
+    if !is_done(a) {
+        return put_refusal(text, 0, a);
+    }
+    let n = word_at(bytes, DARTS_AT) as usize;
+    put_map(&rows[..4 * n], &flags[..n], marks, queue, output, text)
+}

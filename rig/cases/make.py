@@ -1,7 +1,7 @@
 #!/usr/bin/env python3
 """Writes the inputs of the report programs: the cases of report_cases, and the input that is too long.
 
-Usage: make_cases.py CASES_FILE LONG_FILE [FOLDER]
+Usage: make.py CASES_FILE LONG_FILE [FOLDER]
 With FOLDER each case is also written there as a file of its own, NNN.img.
 """
 
@@ -9,7 +9,7 @@ import os
 import struct
 import sys
 
-sys.path.insert(0, os.path.join(os.path.dirname(os.path.abspath(__file__)), "examples"))
+sys.path.insert(0, os.path.join(os.path.dirname(os.path.abspath(__file__)), "..", "..", "examples"))
 from make_examples import cube_mesh, image, loops, mesh, open_strip, tetrahedron  # noqa: E402
 
 NAN = struct.unpack("<d", struct.pack("<Q", 0x7FF8000000000000))[0]

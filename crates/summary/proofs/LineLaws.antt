@@ -1,11 +1,10 @@
 -- The lines of the report, one part behind the other. Assumes nothing.
 --   value-is, value-next   a space, then a number, and where they end
 --   told-is      the line of a refusal
---   used-yes, used-no, used-start   the count of the darts, one dart on
---   head-is      the line of the darts
---   listed-line  a list in the first places of an output, as a line
---   class-is     the line of a class
---   class-next   where the line of a class ends at most
+--   used-start, used-yes, used-no   the count of the darts, one dart on
+--   head-is, head-length   the line of the darts
+--   listed-line, listed-count   a list in the first places of an output, as a line
+--   class-is, class-fits, class-next   the line of a class, its room, and where it ends
 --   map-is       the five lines of a map
 use Prim.Native.Nat.{ℕ, zero, suc, _+_, _-_, _*_, _<_, _≤_}
 use native.Mathlib.Omega.{arith}

@@ -1,9 +1,11 @@
 -- The reader's answer, and the whole report. Assumes nothing.
 --   test-is        with loans for 1,024 darts the reader's tests answer what `answerOf` says
---   more-is        the report of an input that is too long
+--   tested         the reader is done exactly where `answerOf` is
 --   refused-is     the report of an image that is refused
---   Held, held     what the loans hold of an image that is read
+--   fit            what holds of an image that is read
+--   rows-are, flags-are, rows-n, flags-n, formed   the parts of the loans that are lent on: the image's rows and flags
 --   done-is        the report of an image that is read
+--   more-is        the report of an input that is too long
 use Prim.Native.Nat.{ℕ, _+_, _*_, _/_, _<_, _≤_}
 use native.Mathlib.Omega.{arith}
 use mathlib.Core.Path.{_≡_, refl, sym, ap, _∙_}

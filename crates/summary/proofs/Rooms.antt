@@ -1,5 +1,5 @@
 -- How long the lines of the report are at most. Assumes nothing.
---   value-room     a number with its space has at most 21 bytes
+--   value-length, decimal-room, value-room   a number of 64 bits has at most 20 digits, and a number with its space has at most 21 bytes
 --   items-front    the first numbers of a list, whatever stands behind it
 --   items-short    k numbers below 10,000 have at most 5k bytes with their spaces
 --   list-count, list-small   a list has fewer identifiers than darts, and each is a dart

@@ -1,6 +1,7 @@
 -- The text that the report program prints, byte for byte.
 --   valueOf x            a number after one space
---   refusedLine a        the line of a refusal: its number and its three values
+--   refusedWord, ..      the words of the report
+--   toldLine, refusedLine   the line of a refusal: its number and its three values
 --   usedUpTo flags k     how many of the darts 1 to k are not unused
 --   headLine n used      the line of the darts
 --   classLine name class rows flags   the line of a class of cells

@@ -27,59 +27,23 @@ fn put_map(
     flags: &[u8],
     marks: &mut [u8],
     queue: &mut [u32],
-    output: &mut [u32],
+    out: &mut [u32],
     text: &mut [u8],
 ) -> usize
-    requires { ⌜ WellFormed (now rows) × (darts (now rows) ≤ 1024) × (1024 ≤ length (now marks)) × (1024 ≤ length (now queue)) × (1024 ≤ length (now output)) × (darts (now rows) ≤ length (now flags)) × (24576 ≤ length (now text)) ⌝ }
+    requires { ⌜ WellFormed (now rows) × (darts (now rows) ≤ 1024) × (1024 ≤ length (now marks)) × (1024 ≤ length (now queue)) × (1024 ≤ length (now out)) × (darts (now rows) ≤ length (now flags)) × (24576 ≤ length (now text)) ⌝ }
     ensures { λ r. ⌜ (put r (now (text .exit)) ≡ lay (now (text .entry)) 0 (mapText (now (rows .entry)) (now (flags .entry)))) × (r ≤ 24576) ⌝ }
 {
     let n = rows.len() / 4;
+    let vertex = Class::Vertex;
+    let edge = Class::Edge;
+    let face = Class::Face;
+    let volume = Class::Volume;
     let used = count_used(flags, n);
     let h = put_head(text, 0, n, used);
-    let v = put_class(
-        rows,
-        flags,
-        marks,
-        queue,
-        output,
-        text,
-        h,
-        Class::Vertex,
-        b"vertices",
-    );
-    let e = put_class(
-        rows,
-        flags,
-        marks,
-        queue,
-        output,
-        text,
-        v,
-        Class::Edge,
-        b"edges",
-    );
-    let f = put_class(
-        rows,
-        flags,
-        marks,
-        queue,
-        output,
-        text,
-        e,
-        Class::Face,
-        b"faces",
-    );
-    put_class(
-        rows,
-        flags,
-        marks,
-        queue,
-        output,
-        text,
-        f,
-        Class::Volume,
-        b"volumes",
-    )
+    let v = put_class(rows, flags, marks, queue, out, text, h, vertex, b"vertices");
+    let e = put_class(rows, flags, marks, queue, out, text, v, edge, b"edges");
+    let f = put_class(rows, flags, marks, queue, out, text, e, face, b"faces");
+    put_class(rows, flags, marks, queue, out, text, f, volume, b"volumes")
 }
 
 // Writes the report of an image; `more` says that the input has more bytes than are lent.

@@ -1,0 +1,258 @@
+// The exported calls by their number in the list.
+use crate::records::size;
+use crate::records::word;
+use inkcapper::id_calls;
+use inkcapper::link_calls;
+use inkcapper::list_calls;
+use inkcapper::orbit_calls;
+use inkcapper::read_calls;
+use inkcapper::sew_calls;
+
+// The answer of no call.
+const NONE: u32 = 255;
+
+// Makes the call that a record names: its number is answered, the values are written.
+pub fn call(
+    record: &[u8],
+    rows: &mut [u32],
+    output: &mut [u32],
+    plan: &mut [u32],
+    values: &mut [u64; 3],
+) -> u32 {
+    let operation = word(record, 0);
+    let a = word(record, 2);
+    let b = word(record, 3);
+    if operation < 4 {
+        return read(operation, rows, a, b, values);
+    }
+    if operation < 10 {
+        return link(operation, rows, a, b, values);
+    }
+    if operation == 12 {
+        return two_sew(word(record, 8), rows, plan, a, b, values);
+    }
+    if operation < 15 {
+        return sew(operation, rows, plan, a, b, values);
+    }
+    if operation < 19 {
+        return identifier(operation, rows, a, values);
+    }
+    if operation < 26 {
+        return orbit(operation, rows, output, a, values);
+    }
+    if operation == 26 {
+        return custom(record, rows, output, a, values);
+    }
+    list(operation, rows, output, values)
+}
+
+// Beta reads and free tests.
+fn read(operation: u32, rows: &[u32], a: u32, b: u32, values: &mut [u64; 3]) -> u32 {
+    match operation {
+        1 => read_calls::inkcapper_beta(rows, a, b, values),
+        2 => read_calls::inkcapper_is_i_free(rows, a, b, values),
+        3 => read_calls::inkcapper_is_free(rows, a, values),
+        _ => NONE,
+    }
+}
+
+// Links and unlinks.
+fn link(operation: u32, rows: &mut [u32], a: u32, b: u32, values: &mut [u64; 3]) -> u32 {
+    match operation {
+        4 => link_calls::inkcapper_one_link(rows, a, b, values),
+        5 => link_calls::inkcapper_two_link(rows, a, b, values),
+        6 => link_calls::inkcapper_three_link(rows, a, b, values),
+        7 => link_calls::inkcapper_one_unlink(rows, a, values),
+        8 => link_calls::inkcapper_two_unlink(rows, a, values),
+        9 => link_calls::inkcapper_three_unlink(rows, a, values),
+        _ => NONE,
+    }
+}
+
+// The sews and unsews without coordinates.
+fn sew(
+    operation: u32,
+    rows: &mut [u32],
+    plan: &mut [u32],
+    a: u32,
+    b: u32,
+    values: &mut [u64; 3],
+) -> u32 {
+    let mut marks = [165u8; 8];
+    let mut queue = [7u32; 8];
+    match operation {
+        10 => sew_calls::inkcapper_one_sew(rows, &mut marks, &mut queue, plan, a, b, values),
+        11 => sew_calls::inkcapper_one_unsew(rows, &mut marks, &mut queue, plan, a, values),
+        13 => sew_calls::inkcapper_two_unsew(rows, &mut marks, &mut queue, plan, a, values),
+        14 => sew_calls::inkcapper_three_unsew(rows, &mut marks, &mut queue, plan, a, values),
+        _ => NONE,
+    }
+}
+
+// The 2-sew: without vertices, or with those of document 01's two lines.
+fn two_sew(
+    points: u32,
+    rows: &mut [u32],
+    plan: &mut [u32],
+    a: u32,
+    b: u32,
+    values: &mut [u64; 3],
+) -> u32 {
+    let mut marks = [165u8; 8];
+    let mut queue = [7u32; 8];
+    let none = [0u8; 8];
+    let all = [1u8; 8];
+    let zeros = [0.0f64; 24];
+    // 1 and 2 at (0,0,0) (1,0,0), 3 and 4 at (1,0,0) (0,0,0)
+    let facing = [
+        0.0,
+        0.0,
+        0.0,
+        0.0,
+        0.0,
+        0.0,
+        1.0,
+        0.0,
+        0.0,
+        1.0,
+        0.0,
+        0.0,
+        0.0,
+        0.0,
+        0.0,
+    ];
+    // the same, but 3 and 4 at (0,0,0) (0,1,0)
+    let aside = [
+        0.0,
+        0.0,
+        0.0,
+        0.0,
+        0.0,
+        0.0,
+        1.0,
+        0.0,
+        0.0,
+        0.0,
+        0.0,
+        0.0,
+        0.0,
+        1.0,
+        0.0,
+    ];
+    match points {
+        0 => sew_calls::inkcapper_two_sew(
+            rows,
+            &mut marks,
+            &mut queue,
+            &none,
+            &zeros,
+            plan,
+            a,
+            b,
+            values,
+        ),
+        1 => sew_calls::inkcapper_two_sew(
+            rows,
+            &mut marks,
+            &mut queue,
+            &all,
+            &facing,
+            plan,
+            a,
+            b,
+            values,
+        ),
+        2 => sew_calls::inkcapper_two_sew(
+            rows,
+            &mut marks,
+            &mut queue,
+            &all,
+            &aside,
+            plan,
+            a,
+            b,
+            values,
+        ),
+        _ => NONE,
+    }
+}
+
+// Identifiers of cells.
+fn identifier(operation: u32, rows: &[u32], d: u32, values: &mut [u64; 3]) -> u32 {
+    let mut marks = [165u8; 8];
+    let mut queue = [7u32; 8];
+    match operation {
+        15 => id_calls::inkcapper_vertex_id(rows, &mut marks, &mut queue, d, values),
+        16 => id_calls::inkcapper_edge_id(rows, &mut marks, &mut queue, d, values),
+        17 => id_calls::inkcapper_face_id(rows, &mut marks, &mut queue, d, values),
+        18 => id_calls::inkcapper_volume_id(rows, &mut marks, &mut queue, d, values),
+        _ => NONE,
+    }
+}
+
+// Orbits by class.
+fn orbit(operation: u32, rows: &[u32], output: &mut [u32], d: u32, values: &mut [u64; 3]) -> u32 {
+    let mut marks = [165u8; 8];
+    match operation {
+        19 => orbit_calls::inkcapper_orbit_vertex(rows, &mut marks, output, d, values),
+        20 => orbit_calls::inkcapper_orbit_vertex_linear(rows, &mut marks, output, d, values),
+        21 => orbit_calls::inkcapper_orbit_edge(rows, &mut marks, output, d, values),
+        22 => orbit_calls::inkcapper_orbit_face(rows, &mut marks, output, d, values),
+        23 => orbit_calls::inkcapper_orbit_face_linear(rows, &mut marks, output, d, values),
+        24 => orbit_calls::inkcapper_orbit_volume(rows, &mut marks, output, d, values),
+        25 => orbit_calls::inkcapper_orbit_volume_linear(rows, &mut marks, output, d, values),
+        _ => NONE,
+    }
+}
+
+// The orbit under the betas of a record.
+fn custom(record: &[u8], rows: &[u32], output: &mut [u32], d: u32, values: &mut [u64; 3]) -> u32 {
+    let mut marks = [165u8; 8];
+    let end = 12 + size(record, 10);
+    if record.len() < end {
+        return NONE;
+    }
+    orbit_calls::inkcapper_orbit_custom(rows, &mut marks, output, &record[12..end], d, values)
+}
+
+// Lists of cells, no dart unused.
+fn list(operation: u32, rows: &[u32], output: &mut [u32], values: &mut [u64; 3]) -> u32 {
+    let mut marks = [165u8; 8];
+    let mut queue = [7u32; 8];
+    let flags = [0u8; 8];
+    match operation {
+        27 => list_calls::inkcapper_list_vertices(
+            rows,
+            &mut marks,
+            &mut queue,
+            output,
+            &flags,
+            values,
+        ),
+        28 => list_calls::inkcapper_list_edges(
+            rows,
+            &mut marks,
+            &mut queue,
+            output,
+            &flags,
+            values,
+        ),
+        29 => list_calls::inkcapper_list_faces(
+            rows,
+            &mut marks,
+            &mut queue,
+            output,
+            &flags,
+            values,
+        ),
+        30 => list_calls::inkcapper_list_volumes(
+            rows,
+            &mut marks,
+            &mut queue,
+            output,
+            &flags,
+            values,
+        ),
+        _ => NONE,
+    }
+}

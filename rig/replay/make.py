@@ -1,0 +1,91 @@
+#!/usr/bin/env python3
+"""Makes the list of answers that the crate `replay` runs: crates/replay/stdin.
+
+The answers are the published Rust's own, printed by the comparison program of rig/compare:
+
+    for run in "1 1" "2 1" "3 41" "4 3001"; do compare answers $run; done | make.py > crates/replay/stdin
+
+That is every call on all maps of one and of two real darts, every 41st call on all maps of three, and every
+3001st on all maps of four. Calls without a C name (in parentheses) are left out. Behind them come document
+01's lines that are not marked P: a 3-unsew with room for three entries, and two 2-sews with coordinates.
+
+A record is a row of bytes, one for each number (all are below 256; another ends this script):
+
+    operation, n, a, b, number, value 1, value 2, value 3, points, room, betas, written,
+    then the betas of a custom orbit, 4n rows before, 4n rows after, and the words written (plan or list).
+
+operation: its place in CALLS, counted from 1. n: darts, the null dart among them. a and b: the call's numbers
+in their order, 0 where absent. points: 0 for no vertices, 1 and 2 for the coordinates of document 01's two
+2-sews. room: the words of plan that are lent. betas and written: how many of each follow.
+
+What was made, by call and number, goes to standard error.
+"""
+import collections
+import sys
+
+CALLS = """beta is_i_free is_free
+one_link two_link three_link one_unlink two_unlink three_unlink
+one_sew one_unsew two_sew two_unsew three_unsew
+vertex_id edge_id face_id volume_id
+orbit_vertex orbit_vertex_linear orbit_edge orbit_face orbit_face_linear orbit_volume orbit_volume_linear
+orbit_custom list_vertices list_edges list_faces list_volumes""".split()
+ROOM = 64
+LARGEST = 524288
+
+
+def record(call, numbers, before, answer, after, written, points=0, room=ROOM):
+    """One record; the betas of a custom orbit stand before its dart."""
+    betas = []
+    if call == "orbit_custom":
+        betas, numbers = numbers[:-1], numbers[-1:]
+    a, b = (numbers + [0, 0])[:2]
+    assert len(numbers) <= 2 and len(answer) == 4 and len(before) == len(after) and len(written) <= room
+    head = [CALLS.index(call) + 1, len(before) // 4, a, b, *answer, points, room, len(betas), len(written)]
+    return bytes(head + betas + before + after + written)
+
+
+def chains(n, *links):
+    """Rows of n darts with links (i, l, r)."""
+    rows = [0] * (4 * n)
+    for i, l, r in links:
+        rows[4 * l + i] = r
+        rows[4 * r + (0 if i == 1 else i)] = l
+    return rows
+
+
+def document():
+    """Document 01's lines that are not marked P."""
+    pair = chains(3, (3, 1, 2))
+    yield "three_unsew", [1], pair, [11, 4, 0, 0], pair, [], 0, 12
+    open_faces = [(1, 1, 2), (1, 3, 4)]
+    before, after = chains(5, *open_faces), chains(5, *open_faces, (2, 1, 3))
+    plan = [2, 1, 1, 3, 1, 1, 1, 4, 1, 2, 2, 3]
+    yield "two_sew", [1, 3], before, [0, 0, 3, 0], after, plan, 1, ROOM
+    yield "two_sew", [1, 3], before, [10, 2, 1, 3], before, [], 2, ROOM
+
+
+def answers(lines):
+    """The printed answers: call and numbers | rows | number and values | rows after | written."""
+    for line in lines:
+        if line.startswith("("):
+            continue
+        call, before, answer, after, written = line.rstrip("\n").split("|")
+        name, *numbers = call.split()
+        yield (name, *([int(word) for word in part.split()] for part in (" ".join(numbers), before, answer, after, written)))
+
+
+def main():
+    made = collections.Counter()
+    out = bytearray()
+    for parts in [*answers(sys.stdin), *document()]:
+        out += record(*parts)
+        made[parts[0], parts[3][0]] += 1
+    assert len(out) <= LARGEST
+    for (name, number), count in sorted(made.items(), key=lambda item: (CALLS.index(item[0][0]), item[0][1])):
+        print(name, number, count, file=sys.stderr)
+    print(f"{sum(made.values())} answers, {len(out)} bytes", file=sys.stderr)
+    sys.stdout.buffer.write(out)
+
+
+if __name__ == "__main__":
+    main()

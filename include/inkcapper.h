@@ -99,6 +99,11 @@ uint32_t inkcapper_is_i_free(const uint32_t *rows, size_t rows_len, uint32_t i, 
 /* Answers 1 if dart d has no image under any beta, else 0. */
 uint32_t inkcapper_is_free(const uint32_t *rows, size_t rows_len, uint32_t d, uint64_t values[3]);
 
+/* ---- The map test. Refusals 1, 3. ---- */
+
+/* Done, with nothing answered, if the rows are a well-formed map. */
+uint32_t inkcapper_check_map(const uint32_t *rows, size_t rows_len, uint64_t values[3]);
+
 /* ---- Links: real darts. Refusals 1, 3, 4, 6, 7, and 9 for the 3-link. ---- */
 
 /* Makes rd the beta 1 image of ld and ld the beta 0 image of rd; refuses 6 (1, ld, rd) if ld has a beta 1

@@ -45,6 +45,11 @@ pub unsafe extern "C" fn inkcapper_is_free(rows: *const u32, rows_len: usize, d:
     tell(model::is_free(unsafe { read(rows, rows_len) }, d), values)
 }
 
+#[unsafe(no_mangle)]
+pub unsafe extern "C" fn inkcapper_check_map(rows: *const u32, rows_len: usize, values: *mut [u64; 3]) -> u32 {
+    tell(model::check_map(unsafe { read(rows, rows_len) }), values)
+}
+
 macro_rules! links {
     ($($name:ident ($($dart:ident),*) = $model:path;)*) => { $(
         #[unsafe(no_mangle)]

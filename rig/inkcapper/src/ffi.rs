@@ -12,6 +12,8 @@ unsafe extern "C" {
     pub fn inkcapper_is_i_free(rows: *const u32, rows_len: usize, i: u32, d: u32, values: Values) -> u32;
     pub fn inkcapper_is_free(rows: *const u32, rows_len: usize, d: u32, values: Values) -> u32;
 
+    pub fn inkcapper_check_map(rows: *const u32, rows_len: usize, values: Values) -> u32;
+
     pub fn inkcapper_one_link(rows: *mut u32, rows_len: usize, ld: u32, rd: u32, values: Values) -> u32;
     pub fn inkcapper_two_link(rows: *mut u32, rows_len: usize, ld: u32, rd: u32, values: Values) -> u32;
     pub fn inkcapper_three_link(rows: *mut u32, rows_len: usize, ld: u32, rd: u32, values: Values) -> u32;

@@ -40,6 +40,20 @@ pub fn is_free(rows: &[u32], d: u32) -> Answer {
     ask(|values| unsafe { ffi::inkcapper_is_free(rows.as_ptr(), rows.len(), d, values) })
 }
 
+/// The map test alone: whether the rows are a well-formed map.
+///
+/// ```
+/// # #[cfg(not(feature = "linked"))] extern crate c_names;
+/// use inkcapper::{Answer, Refusal, slices};
+/// assert_eq!(slices::check_map(&[0, 0, 0, 0, 1, 1, 0, 0]), Answer::Done { first: 0, count: 0 });
+/// // beta 2 may not fix a dart
+/// assert_eq!(slices::check_map(&[0, 0, 0, 0, 1, 1, 1, 0]), Answer::Refused(Refusal::NotAMap { beta: 2, dart: 1 }));
+/// ```
+pub fn check_map(rows: &[u32]) -> Answer {
+    // SAFETY: as in `beta`.
+    ask(|values| unsafe { ffi::inkcapper_check_map(rows.as_ptr(), rows.len(), values) })
+}
+
 macro_rules! links {
     ($($(#[$doc:meta])* $name:ident, $c:ident ($($dart:ident),*);)*) => { $(
         $(#[$doc])*

@@ -77,6 +77,6 @@ fn header_and_declarations_agree() {
         .find_map(|place| std::fs::read_to_string(here.join(place)).ok())
         .expect("include/inkcapper.h");
     let (c, rust) = (of_header(&header), of_rust(include_str!("../src/ffi.rs")));
-    assert_eq!(c.len(), 31);
+    assert_eq!(c.len(), 32);
     assert_eq!(c, rust);
 }

@@ -116,6 +116,11 @@ pub(crate) fn map(rows: &[u32]) -> Step<()> {
     }
 }
 
+/// The map test as a call of its own: refusals 1 and 3.
+pub fn check_map(rows: &[u32]) -> Answer {
+    answer(size(rows).and_then(|_| map(rows)).map(|()| done(0, 0)))
+}
+
 /// Refusal 4 where dart 0 is allowed: a dart not below n, named by its place among the darts.
 pub(crate) fn darts(n: usize, arguments: &[u32]) -> Step<()> {
     match arguments.iter().position(|&d| d as usize >= n) {

@@ -1,0 +1,135 @@
+//! What is measured, who is measured, and the times found.
+
+use inkcapper::Cell;
+
+use crate::clock::Spread;
+
+/// Who is measured.
+#[derive(Debug, Clone, Copy, PartialEq, Eq)]
+pub enum Who {
+    Ours,
+    /// The published Rust.
+    Text,
+    Cgal,
+}
+
+/// What is measured. Lists and tests are over the whole map, the rest are single calls.
+#[derive(Debug, Clone, Copy, PartialEq, Eq)]
+pub enum Line {
+    Read,
+    MapTest,
+    /// The list of least darts.
+    List(Cell),
+    /// CGAL alone: its own range, which gives the darts that come first in storage.
+    FirstDarts(Cell),
+    Id(Cell),
+    Orbit(Cell),
+    ThreeLink,
+    ThreeUnlink,
+    /// CGAL alone: the sew with its test before it.
+    TestedSew,
+    TwoSew,
+    TwoUnsew,
+    /// Ours alone: the map test right before the call at this place of [`CALLS`], and what the call took
+    /// beyond it.
+    TestBeside(usize),
+    Beyond(usize),
+}
+
+pub const CELLS: [Cell; 4] = [Cell::Vertex, Cell::Edge, Cell::Face, Cell::Volume];
+
+/// The lines that are single calls.
+pub const CALLS: [Line; 10] = [
+    Line::Id(Cell::Vertex),
+    Line::Id(Cell::Edge),
+    Line::Id(Cell::Face),
+    Line::Id(Cell::Volume),
+    Line::Orbit(Cell::Vertex),
+    Line::Orbit(Cell::Volume),
+    Line::ThreeLink,
+    Line::ThreeUnlink,
+    Line::TwoSew,
+    Line::TwoUnsew,
+];
+
+/// A cell's name, one and many.
+pub fn cell_name(cell: Cell) -> (&'static str, &'static str) {
+    match cell {
+        Cell::Vertex => ("vertex", "vertices"),
+        Cell::Edge => ("edge", "edges"),
+        Cell::Face => ("face", "faces"),
+        Cell::Volume => ("volume", "volumes"),
+    }
+}
+
+impl Line {
+    pub fn name(self) -> String {
+        match self {
+            Self::Read => "reading the rows once".into(),
+            Self::MapTest => "map test".into(),
+            Self::List(cell) => format!("list of {}", cell_name(cell).1),
+            Self::FirstDarts(cell) => format!("first darts of {}", cell_name(cell).1),
+            Self::Id(cell) => format!("{} identifier", cell_name(cell).0),
+            Self::Orbit(cell) => format!("{} orbit", cell_name(cell).0),
+            Self::ThreeLink => "3-link of a face pair".into(),
+            Self::ThreeUnlink => "3-unlink of a face pair".into(),
+            Self::TestedSew => "is_sewable and 3-sew".into(),
+            Self::TwoSew => "2-sew".into(),
+            Self::TwoUnsew => "2-unsew".into(),
+            Self::TestBeside(call) => format!("map test beside {}", CALLS[call].name()),
+            Self::Beyond(call) => format!("{} beyond the map test", CALLS[call].name()),
+        }
+    }
+}
+
+/// The map that a line was measured on.
+#[derive(Debug, Clone, Copy, PartialEq, Eq)]
+pub enum Input {
+    /// A grid with so many cubes a side.
+    Grid(usize),
+    /// One closed face of so many darts.
+    Ring(u32),
+}
+
+impl Input {
+    /// Its real darts.
+    pub fn darts(self) -> usize {
+        match self {
+            Self::Grid(side) => 24 * side.pow(3),
+            Self::Ring(darts) => darts as usize,
+        }
+    }
+}
+
+/// All times found, in nanoseconds.
+#[derive(Default)]
+pub struct Times(Vec<(Who, Input, Line, Vec<f64>)>);
+
+impl Times {
+    /// Adds to what earlier passes found.
+    pub fn put(&mut self, who: Who, input: Input, line: Line, times: &[f64]) {
+        match self.0.iter_mut().find(|(w, i, l, _)| (*w, *i, *l) == (who, input, line)) {
+            Some((.., held)) => held.extend(times),
+            None => self.0.push((who, input, line, times.to_vec())),
+        }
+    }
+
+    pub fn get(&self, who: Who, input: Input, line: Line) -> Option<Spread> {
+        self.0.iter().find(|(w, i, l, _)| (*w, *i, *l) == (who, input, line)).map(|(.., held)| Spread::of(held))
+    }
+
+    /// CGAL's list by whichever of its two ways is the faster here.
+    pub fn cgal_list(&self, input: Input, cell: Cell) -> Option<Spread> {
+        let ways = [Line::List(cell), Line::FirstDarts(cell)];
+        let found = ways.iter().filter_map(|&line| self.get(Who::Cgal, input, line));
+        found.min_by(|a, b| a.median.total_cmp(&b.median))
+    }
+
+    /// The line of a peer that stands against ours.
+    pub fn against(&self, who: Who, input: Input, line: Line) -> Option<Spread> {
+        match (who, line) {
+            (Who::Cgal, Line::List(cell)) => self.cgal_list(input, cell),
+            _ => self.get(who, input, line),
+        }
+    }
+}

@@ -1,0 +1,129 @@
+//! The proved library's lines.
+
+use inkcapper::{Answer, Cell, slices};
+
+use crate::clock::time;
+use crate::grid::Grid;
+use crate::lines::{CALLS, CELLS, Input, Line, Times, Who};
+
+/// All that a call is lent, at its least size.
+struct Scratch {
+    marks: Vec<u8>,
+    queue: Vec<u32>,
+    output: Vec<u32>,
+    flags: Vec<u8>,
+    plan: Vec<u32>,
+}
+
+impl Scratch {
+    fn of(rows: &[u32]) -> Self {
+        let n = rows.len() / 4;
+        Self { marks: vec![0; n], queue: vec![0; n], output: vec![0; n], flags: vec![0; n], plan: vec![0; 64] }
+    }
+
+    /// A list, and how long it took.
+    fn list(&mut self, cell: Cell, rows: &[u32]) -> (f64, usize) {
+        let call = match cell {
+            Cell::Vertex => slices::list_vertices,
+            Cell::Edge => slices::list_edges,
+            Cell::Face => slices::list_faces,
+            Cell::Volume => slices::list_volumes,
+        };
+        let mut count = 0;
+        let took = time(|| {
+            let answer = call(rows, &mut self.marks, &mut self.queue, &mut self.output, &self.flags);
+            count = answer.done().expect("a list").1 as usize;
+        });
+        (took, count)
+    }
+}
+
+/// What the lists hold, so that others can be held against them.
+pub type Lists = [Vec<u32>; 4];
+
+/// Map test, reading and lists. Each run goes through all lines, so that a busy spell of the machine
+/// falls on all of them.
+pub fn whole_map(times: &mut Times, input: Input, rows: &[u32], runs: usize) -> Lists {
+    let mut scratch = Scratch::of(rows);
+    let mut found: [Vec<f64>; 6] = Default::default();
+    let mut lists = Lists::default();
+    for _ in 0..runs {
+        // each after a pass of the same kind, so that neither finds the rows in a cache that the
+        // other did not
+        for _ in 0..2 {
+            found[0].push(time(|| rows.iter().map(|&word| u64::from(word)).sum::<u64>()));
+        }
+        for _ in 0..2 {
+            found[1].push(time(|| slices::check_map(rows).done().expect("a map")));
+        }
+        for (at, cell) in CELLS.into_iter().enumerate() {
+            let (took, count) = scratch.list(cell, rows);
+            found[2 + at].push(took);
+            lists[at] = scratch.output[..count].to_vec();
+        }
+    }
+    let lines = [Line::Read, Line::MapTest].into_iter().chain(CELLS.map(Line::List));
+    lines.zip(&found).for_each(|(line, found)| times.put(Who::Ours, input, line, found));
+    lists
+}
+
+/// Single calls: each run is the mean over the probes. Returns the identifiers found.
+///
+/// Every call contains one map test, which is most of it; so a map test is timed right beside each, and
+/// what the call took beyond it is the difference within a run, not between medians.
+pub fn calls(times: &mut Times, input: Input, grid: &mut Grid, runs: usize) -> Lists {
+    let mut scratch = Scratch::of(&grid.rows);
+    let Grid { rows, vertex_marks, coordinates, probes } = grid;
+    // what an unlink or unsew of a probe takes away, and the link or sew puts back
+    let partners =
+        |rows: &[u32], beta: usize| -> Vec<u32> { probes.iter().map(|&d| rows[4 * d as usize + beta]).collect() };
+    let (across, beside) = (partners(rows, 3), partners(rows, 2));
+    let mut found: [[Vec<f64>; 2]; CALLS.len()] = Default::default();
+    let mut ids = Lists::default();
+    for _ in 0..runs {
+        // what takes a link away comes before what puts it there
+        let order = [0, 1, 2, 3, 4, 5, 7, 6, 9, 8];
+        for at in order {
+            let test = time(|| probes.iter().for_each(|_| _ = slices::check_map(rows).done().expect("a map")));
+            let Scratch { marks, queue, output, plan, .. } = &mut scratch;
+            // choosing the call each time is nothing beside a map test
+            let mut call = |k: usize, d: u32| match CALLS[at] {
+                Line::Id(cell) => identifier(cell)(rows, marks, queue, d),
+                Line::Orbit(Cell::Vertex) => slices::orbit_vertex(rows, marks, output, d),
+                Line::Orbit(_) => slices::orbit_volume(rows, marks, output, d),
+                Line::ThreeUnlink => slices::three_unlink(rows, d),
+                Line::ThreeLink => slices::three_link(rows, d, across[k]),
+                Line::TwoUnsew => slices::two_unsew(rows, marks, queue, plan, d),
+                Line::TwoSew => slices::two_sew(rows, marks, queue, vertex_marks, coordinates, plan, d, beside[k]),
+                _ => unreachable!("not a single call"),
+            };
+            let mut answers = Vec::with_capacity(probes.len());
+            let took = time(|| answers.extend(probes.iter().enumerate().map(|(k, &d)| call(k, d))));
+            let answers = answers.into_iter().map(|answer| answer.done().expect("done").0 as u32).collect();
+            if let Line::Id(cell) = CALLS[at] {
+                ids[cell as usize] = answers;
+            }
+            let mean = |total: f64| total / probes.len() as f64;
+            found[at][0].push(mean(took));
+            found[at][1].push(mean(test));
+        }
+    }
+    for (at, [took, test]) in found.iter().enumerate() {
+        let beyond: Vec<f64> = took.iter().zip(test).map(|(took, test)| took - test).collect();
+        times.put(Who::Ours, input, CALLS[at], took);
+        times.put(Who::Ours, input, Line::TestBeside(at), test);
+        times.put(Who::Ours, input, Line::Beyond(at), &beyond);
+    }
+    ids
+}
+
+type Identifier = fn(&[u32], &mut [u8], &mut [u32], u32) -> Answer;
+
+fn identifier(cell: Cell) -> Identifier {
+    match cell {
+        Cell::Vertex => slices::vertex_id,
+        Cell::Edge => slices::edge_id,
+        Cell::Face => slices::face_id,
+        Cell::Volume => slices::volume_id,
+    }
+}

@@ -7,6 +7,7 @@ use inkcapper::list_calls;
 use inkcapper::orbit_calls;
 use inkcapper::read_calls;
 use inkcapper::sew_calls;
+use inkcapper::sew_calls::inkcapper_two_sew;
 
 // The answer of no call.
 const NONE: u32 = 255;
@@ -89,92 +90,37 @@ fn sew(
     }
 }
 
-// The 2-sew: without vertices, or with those of document 01's two lines.
+// The coordinates of document 01's two 2-sews: 2 is at (1,0,0); 3 is there too (setting 1), or 4 is at (0,1,0); all else is at (0,0,0).
+fn points(setting: u32) -> [f64; 24] {
+    let mut coordinates = [0.0f64; 24];
+    coordinates[6] = 1.0;
+    if setting == 1 {
+        coordinates[9] = 1.0;
+    } else {
+        coordinates[13] = 1.0;
+    }
+    coordinates
+}
+
+// The 2-sew: without vertices (setting 0), or with those of document 01's two lines.
 fn two_sew(
-    points: u32,
+    setting: u32,
     rows: &mut [u32],
     plan: &mut [u32],
     a: u32,
     b: u32,
     values: &mut [u64; 3],
 ) -> u32 {
-    let mut marks = [165u8; 8];
-    let mut queue = [7u32; 8];
-    let none = [0u8; 8];
-    let all = [1u8; 8];
-    let zeros = [0.0f64; 24];
-    // 1 and 2 at (0,0,0) (1,0,0), 3 and 4 at (1,0,0) (0,0,0)
-    let facing = [
-        0.0,
-        0.0,
-        0.0,
-        0.0,
-        0.0,
-        0.0,
-        1.0,
-        0.0,
-        0.0,
-        1.0,
-        0.0,
-        0.0,
-        0.0,
-        0.0,
-        0.0,
-    ];
-    // the same, but 3 and 4 at (0,0,0) (0,1,0)
-    let aside = [
-        0.0,
-        0.0,
-        0.0,
-        0.0,
-        0.0,
-        0.0,
-        1.0,
-        0.0,
-        0.0,
-        0.0,
-        0.0,
-        0.0,
-        0.0,
-        1.0,
-        0.0,
-    ];
-    match points {
-        0 => sew_calls::inkcapper_two_sew(
-            rows,
-            &mut marks,
-            &mut queue,
-            &none,
-            &zeros,
-            plan,
-            a,
-            b,
-            values,
-        ),
-        1 => sew_calls::inkcapper_two_sew(
-            rows,
-            &mut marks,
-            &mut queue,
-            &all,
-            &facing,
-            plan,
-            a,
-            b,
-            values,
-        ),
-        2 => sew_calls::inkcapper_two_sew(
-            rows,
-            &mut marks,
-            &mut queue,
-            &all,
-            &aside,
-            plan,
-            a,
-            b,
-            values,
-        ),
-        _ => NONE,
+    let mut m = [165u8; 8];
+    let mut q = [7u32; 8];
+    if setting == 0 {
+        let none = [0u8; 8];
+        let zeros = [0.0f64; 24];
+        return inkcapper_two_sew(rows, &mut m, &mut q, &none, &zeros, plan, a, b, values);
     }
+    let all = [1u8; 8];
+    let at = points(setting);
+    inkcapper_two_sew(rows, &mut m, &mut q, &all, &at, plan, a, b, values)
 }
 
 // Identifiers of cells.
@@ -217,42 +163,14 @@ fn custom(record: &[u8], rows: &[u32], output: &mut [u32], d: u32, values: &mut 
 
 // Lists of cells, no dart unused.
 fn list(operation: u32, rows: &[u32], output: &mut [u32], values: &mut [u64; 3]) -> u32 {
-    let mut marks = [165u8; 8];
-    let mut queue = [7u32; 8];
+    let mut m = [165u8; 8];
+    let mut q = [7u32; 8];
     let flags = [0u8; 8];
     match operation {
-        27 => list_calls::inkcapper_list_vertices(
-            rows,
-            &mut marks,
-            &mut queue,
-            output,
-            &flags,
-            values,
-        ),
-        28 => list_calls::inkcapper_list_edges(
-            rows,
-            &mut marks,
-            &mut queue,
-            output,
-            &flags,
-            values,
-        ),
-        29 => list_calls::inkcapper_list_faces(
-            rows,
-            &mut marks,
-            &mut queue,
-            output,
-            &flags,
-            values,
-        ),
-        30 => list_calls::inkcapper_list_volumes(
-            rows,
-            &mut marks,
-            &mut queue,
-            output,
-            &flags,
-            values,
-        ),
+        27 => list_calls::inkcapper_list_vertices(rows, &mut m, &mut q, output, &flags, values),
+        28 => list_calls::inkcapper_list_edges(rows, &mut m, &mut q, output, &flags, values),
+        29 => list_calls::inkcapper_list_faces(rows, &mut m, &mut q, output, &flags, values),
+        30 => list_calls::inkcapper_list_volumes(rows, &mut m, &mut q, output, &flags, values),
         _ => NONE,
     }
 }

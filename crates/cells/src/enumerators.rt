@@ -5,6 +5,7 @@ use lists::list_core;
 use orbits::policy::EDGE;
 use orbits::policy::VERTEX;
 use orbits::policy::VOLUME;
+use orbits::visits::Written;
 ghost use mathlib.Core.Path.{_≡_};
 ghost use Prim.Native.Nat.{ℕ, _≤_};
 ghost use lib.ListN.{length};
@@ -27,7 +28,7 @@ pub fn vertices_core(
     ensures { λ r. ⌜ (now (marks .exit) ≡ now (marks .entry)) × (now (queue .exit) ≡ wiped (darts (now (rows .entry))) (now (queue .entry))) × Listed (cellList (now (rows .entry)) vertex (now (flags .entry))) (now (output .entry)) (now (output .exit)) r ⌝ }
 {
     let steps = VERTEX;
-    list_core(rows, &steps, marks, queue, output, flags)
+    list_core(rows, Written::Vertex, &steps, marks, queue, output, flags)
 }
 
 // Lists the edges.
@@ -42,7 +43,7 @@ pub fn edges_core(
     ensures { λ r. ⌜ (now (marks .exit) ≡ now (marks .entry)) × (now (queue .exit) ≡ wiped (darts (now (rows .entry))) (now (queue .entry))) × Listed (cellList (now (rows .entry)) edge (now (flags .entry))) (now (output .entry)) (now (output .exit)) r ⌝ }
 {
     let steps = EDGE;
-    list_core(rows, &steps, marks, queue, output, flags)
+    list_core(rows, Written::Edge, &steps, marks, queue, output, flags)
 }
 
 // Lists the volumes.
@@ -57,7 +58,7 @@ pub fn volumes_core(
     ensures { λ r. ⌜ (now (marks .exit) ≡ now (marks .entry)) × (now (queue .exit) ≡ wiped (darts (now (rows .entry))) (now (queue .entry))) × Listed (cellList (now (rows .entry)) volume (now (flags .entry))) (now (output .entry)) (now (output .exit)) r ⌝ }
 {
     let steps = VOLUME;
-    list_core(rows, &steps, marks, queue, output, flags)
+    list_core(rows, Written::Volume, &steps, marks, queue, output, flags)
 }
 
 // Lists the cells of a class.

@@ -6,6 +6,7 @@ use orbits::policy::FACE;
 use orbits::scratch::clear;
 use orbits::scratch::wipe_marks;
 use orbits::scratch::wipe_queue;
+use orbits::visits::Written;
 ghost use mathlib.Core.Path.{_≡_};
 ghost use mathlib.Core.Bool.{_&&_};
 ghost use lib.Dec.{eqb};
@@ -72,7 +73,7 @@ fn look(rows: &[u32], marks: &mut [u8], queue: &mut [u32], known: usize, d: u32)
     }
     if is_regular(rows, d) {
         let steps = FACE;
-        let more = grow(rows, &steps, marks, queue, known, d);
+        let more = grow(rows, Written::Face, &steps, marks, queue, known, d);
         return Sight {
             own: true,
             known: more,

@@ -1,6 +1,6 @@
 -- The loop of the list, and that a turn keeps its invariant.
 --   put-none, put-one     a dart put behind an output's first places, or not
---   grown-both            a push and a flood
+--   grown-both, grown-none   a push and a flood; a push of nothing
 --   Listing, listing-..   the loop
 --   marks-same, queue-wiped   scratch at the end
 -- Assumes nothing.
@@ -54,6 +54,12 @@ grown-both q f l m₁ q₁ k t m₂ q₂ r a b =
       more = le-trans (a .more) (b .more);
       queue = b .queue;
     }
+
+-- where the push adds nothing there is nothing to visit
+pub grown-none : (rows steps q : List ℕ) (f : ℕ) (l m₁ q₁ : List ℕ) (k : ℕ) → Grown q f l m₁ q₁ k → k ≡ f → Grown q f (search rows steps (darts rows - f) f l) m₁ q₁ f
+grown-none rows steps q f l m₁ q₁ k g e =
+    let n : length l ≤ f = omega (arith, e, ap length (g .front), length-take-le k q₁ (g .queue .room)) in
+    subst (λ (j : ℕ). Grown q f (search rows steps (darts rows - f) f l) m₁ q₁ j) e (rw (search-done rows steps (darts rows - f) f l n) g)
 
 -- ---- the loop: the darts before d are passed
 

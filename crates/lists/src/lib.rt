@@ -3,6 +3,7 @@ use orbits::scratch::wipe_marks;
 use orbits::scratch::wipe_queue;
 use orbits::search::flood;
 use orbits::search::push;
+use orbits::visits::Written;
 ghost use mathlib.Core.Path.{_≡_};
 ghost use mathlib.Core.Bool.{_&&_};
 ghost use lib.Dec.{ltb, eqb};
@@ -12,22 +13,27 @@ ghost use Rattle.betas.specs.Betas.{darts};
 ghost use Rattle.orbits.specs.Search.{add, search, Symmetric};
 ghost use Rattle.orbits.specs.Loans.{Fit, Queue, Grown, Zero, Listed};
 ghost use Rattle.orbits.specs.Calls.{wiped};
+ghost use Rattle.orbits.specs.Visits.{stepsBy};
 ghost use Rattle.lists.specs.CellLists.{cellList, Put};
 
 // Puts d into the queue, unless it is there, with all that the steps reach from it.
 pub fn grow(
     rows: &[u32],
+    written: Written,
     steps: &[u8],
     marks: &mut [u8],
     queue: &mut [u32],
     found: usize,
     d: u32,
 ) -> usize
-    requires { ⌜ Fit (now rows) (now steps) (now marks) (now queue) × Queue (now marks) (now queue) found × (d < darts (now rows)) ⌝ }
+    requires { ⌜ Fit (now rows) (now steps) (now marks) (now queue) × Queue (now marks) (now queue) found × (d < darts (now rows)) × (stepsBy written (now steps) ≡ now steps) ⌝ }
     ensures { λ r. ⌜ Grown (now (queue .entry)) found (search (now (rows .entry)) (now (steps .entry)) (darts (now (rows .entry)) - found) found (add (take found (now (queue .entry))) d)) (now (marks .exit)) (now (queue .exit)) r ⌝ }
 {
     let k = push(marks, queue, found, d);
-    flood(rows, steps, marks, queue, found, k)
+    if k == found {
+        return found;
+    }
+    flood(rows, written, steps, marks, queue, found, k)
 }
 
 // Puts x behind the first count places, where the queue has grown and the dart is not unused.
@@ -48,13 +54,14 @@ fn put(output: &mut [u32], count: usize, x: u32, old: usize, new: usize, flag: u
 // Lists the cells of a class: each dart that is not unused and is the least of its cell, in order. The queue's first n places are 0 afterwards.
 pub fn list_core(
     rows: &[u32],
+    written: Written,
     steps: &[u8],
     marks: &mut [u8],
     queue: &mut [u32],
     output: &mut [u32],
     flags: &[u8],
 ) -> usize
-    requires { ⌜ Fit (now rows) (now steps) (now marks) (now queue) × Symmetric (now rows) (now steps) × Zero (now marks) × (darts (now rows) ≤ length (now output)) × (darts (now rows) ≤ length (now flags)) ⌝ }
+    requires { ⌜ Fit (now rows) (now steps) (now marks) (now queue) × Symmetric (now rows) (now steps) × Zero (now marks) × (darts (now rows) ≤ length (now output)) × (darts (now rows) ≤ length (now flags)) × (stepsBy written (now steps) ≡ now steps) ⌝ }
     ensures { λ r. ⌜ (now (marks .exit) ≡ now (marks .entry)) × (now (queue .exit) ≡ wiped (darts (now (rows .entry))) (now (queue .entry))) × Listed (cellList (now (rows .entry)) (now (steps .entry)) (now (flags .entry))) (now (output .entry)) (now (output .exit)) r ⌝ }
 {
     let n = marks.len();
@@ -63,7 +70,7 @@ pub fn list_core(
     let mut d: usize = 1;
     while d < n {
         let x = d as u32;
-        let more = grow(rows, steps, marks, queue, found, x);
+        let more = grow(rows, written, steps, marks, queue, found, x);
         count = put(output, count, x, found, more, flags[d]);
         found = more;
         d += 1;

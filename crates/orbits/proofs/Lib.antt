@@ -7,6 +7,7 @@
 --   IdentLaws    the least dart
 --   QueueLaws    the queue and its marks
 --   TurnLaws     the loops of the search
+--   VisitLaws    visits whose steps are written out
 --   ScratchLaws  scratch that is wiped and lent on
 --   CallLaws     the calls, case by case
 --   CellLaws     what orbits are, for a reader
@@ -19,6 +20,7 @@ pub mod CgalLaws
 pub mod IdentLaws
 pub mod QueueLaws
 pub mod TurnLaws
+pub mod VisitLaws
 pub mod ScratchLaws
 pub mod CallLaws
 pub mod CellLaws

@@ -5,7 +5,7 @@
 --   wiped-lent                     the first part lent on, and given back as it was
 --   zero-split                     zeros put where there were zeros
 --   scratch-same                   scratch fits as long as its lengths stay
---   scratch-fit                    scratch fits any steps
+--   scratch-fit, fit-scratch       scratch fits any steps
 -- Assumes nothing.
 use Prim.Native.Nat.{ℕ, zero, suc, _≤_}
 use native.Mathlib.Nat.{not-suc-le-zero, le-of-suc-le-suc}
@@ -59,3 +59,6 @@ scratch-same rows marks queue marks′ queue′ f m o =
 
 pub scratch-fit : {rows steps marks queue : List ℕ} → Scratch rows marks queue → AreSteps steps → Fit rows steps marks queue
 scratch-fit s a = record { formed = s .formed; marks-n = s .marks-n; out-n = s .queue-n; are-steps = a }
+
+pub fit-scratch : {rows steps marks queue : List ℕ} → Fit rows steps marks queue → Scratch rows marks queue
+fit-scratch f = record { formed = f .formed; marks-n = f .marks-n; queue-n = f .out-n }

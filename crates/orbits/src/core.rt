@@ -2,6 +2,7 @@
 use crate::scratch::clear;
 use crate::scratch::wipe_queue;
 use crate::search::flood;
+use crate::visits::written_out;
 ghost use mathlib.Core.Path.{_≡_};
 ghost use Prim.Native.Nat.{ℕ, _<_, _≤_};
 ghost use lib.ListN.{length, take};
@@ -24,7 +25,8 @@ pub fn orbit_core(rows: &[u32], steps: &[u8], marks: &mut [u8], output: &mut [u3
     let at = d as usize;
     marks[at] = 1;
     output[0] = d;
-    let count = flood(rows, steps, marks, output, 0, 1);
+    let written = written_out(steps);
+    let count = flood(rows, written, steps, marks, output, 0, 1);
     clear(marks, output, count);
     count
 }

@@ -4,3 +4,4 @@ pub mod orbits;
 pub mod policy;
 pub mod scratch;
 pub mod search;
+pub mod visits;

@@ -1,4 +1,6 @@
 // The search, breadth first, over any list of steps. Ports the loop of dim3/orbits.rs: the lent list is its own queue, marks stand for the hash set.
+use crate::visits::Written;
+use crate::visits::visit;
 use betas::betas::beta_at;
 ghost use mathlib.Core.Path.{_≡_};
 ghost use Prim.Native.Nat.{ℕ, _-_, _<_, _≤_};
@@ -6,8 +8,9 @@ ghost use lib.ListN.{length, take};
 ghost use Rattle.betas.specs.Betas.{darts};
 ghost use Rattle.betas.specs.Maps.{WellFormed};
 ghost use Rattle.orbits.specs.Steps.{image as imageOf, IsStep};
-ghost use Rattle.orbits.specs.Search.{add, visit as visitOf, search};
-ghost use Rattle.orbits.specs.Loans.{Queue, Grown, Fit};
+ghost use Rattle.orbits.specs.Search.{add, search};
+ghost use Rattle.orbits.specs.Visits.{stepsBy};
+ghost use Rattle.orbits.specs.Loans.{Queue, Grown, Scratch, Fit};
 
 // Where the step c leads from d.
 pub fn image(rows: &[u32], c: u8, d: u32) -> u32
@@ -39,45 +42,33 @@ pub fn push(marks: &mut [u8], out: &mut [u32], k: usize, x: u32) -> usize
     k + 1
 }
 
-// Puts what the steps lead to from d behind the queue.
-pub fn visit(
-    rows: &[u32],
-    steps: &[u8],
-    marks: &mut [u8],
-    out: &mut [u32],
-    count: usize,
-    d: u32,
-) -> usize
-    requires { ⌜ Fit (now rows) (now steps) (now marks) (now out) × Queue (now marks) (now out) count × (d < darts (now rows)) ⌝ }
-    ensures { λ r. ⌜ Grown (now (out .entry)) count (visitOf (now (rows .entry)) (now (steps .entry)) d (take count (now (out .entry)))) (now (marks .exit)) (now (out .exit)) r ⌝ }
+// Puts where the step c leads from d behind the queue.
+pub fn step(rows: &[u32], c: u8, marks: &mut [u8], out: &mut [u32], k: usize, d: u32) -> usize
+    requires { ⌜ Scratch (now rows) (now marks) (now out) × Queue (now marks) (now out) k × IsStep c × (d < darts (now rows)) ⌝ }
+    ensures { λ r. ⌜ Grown (now (out .entry)) k (add (take k (now (out .entry))) (imageOf (now (rows .entry)) c d)) (now (marks .exit)) (now (out .exit)) r ⌝ }
 {
-    let mut k = count;
-    let mut j = 0;
-    while j < steps.len() {
-        let x = image(rows, steps[j], d);
-        k = push(marks, out, k, x);
-        j += 1;
-    }
-    k
+    let x = image(rows, c, d);
+    push(marks, out, k, x)
 }
 
 // Visits the darts of the queue from the place `from` on, those that it finds too, and returns how many the queue then has.
 pub fn flood(
     rows: &[u32],
+    written: Written,
     steps: &[u8],
     marks: &mut [u8],
     out: &mut [u32],
     from: usize,
     seeds: usize,
 ) -> usize
-    requires { ⌜ Fit (now rows) (now steps) (now marks) (now out) × Queue (now marks) (now out) seeds × (from ≤ seeds) ⌝ }
+    requires { ⌜ Fit (now rows) (now steps) (now marks) (now out) × Queue (now marks) (now out) seeds × (from ≤ seeds) × (stepsBy written (now steps) ≡ now steps) ⌝ }
     ensures { λ r. ⌜ Grown (now (out .entry)) seeds (search (now (rows .entry)) (now (steps .entry)) (darts (now (rows .entry)) - from) from (take seeds (now (out .entry)))) (now (marks .exit)) (now (out .exit)) r ⌝ }
 {
     let mut k = from;
     let mut count = seeds;
     while k < count {
         let e = out[k];
-        count = visit(rows, steps, marks, out, count, e);
+        count = visit(rows, written, steps, marks, out, count, e);
         k += 1;
     }
     count

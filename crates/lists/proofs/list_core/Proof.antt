@@ -13,10 +13,10 @@ use Rattle.lists.proofs.list_core.Statement.{statement}
 use Rattle.lists.proofs.list_core.Tie as tie
 
 abbrev Inv-loop : tie.InvT-loop
-Inv-loop rows steps marks₀ queue₀ output₀ flags n found₀ count₀ d₀ marks queue output found count d = Listing rows steps flags marks₀ queue₀ output₀ marks queue output found count d
+Inv-loop rows written steps marks₀ queue₀ output₀ flags n found₀ count₀ d₀ marks queue output found count d = Listing rows steps flags marks₀ queue₀ output₀ marks queue output found count d
 
 abbrev μ-loop : tie.MeasureT-loop
-μ-loop rows steps marks₀ queue₀ output₀ flags n found₀ count₀ d₀ marks queue output found count d = darts rows - d
+μ-loop rows written steps marks₀ queue₀ output₀ flags n found₀ count₀ d₀ marks queue output found count d = darts rows - d
 
 loop-holds : tie.Need-loop-holds Inv-loop μ-loop
 loop-holds c =
@@ -33,6 +33,7 @@ grow-requires c κs =
       fit-same _ _ (s .args .marks .now) (s .args .queue .now) _ _ (s .pre .0) (l .inv .marks-n) (l .inv .queue-same),
       l .inv .held,
       omega (arith, c .before .before .loop-test .taken, s .pre .0 .marks-n),
+      s .pre .5,
     )
 
 shared-slice-read-put : tie.Need-shared-slice-read-put Inv-loop μ-loop
@@ -57,7 +58,7 @@ loop-again c =
     let p = c .before .before .put in
     listing-turn _ _ (s .args .flags .now) (s .args .marks .now) (s .args .queue .now) (s .args .output .now) (s .pre .0 .formed .below) (s .pre .1) (s .pre .0 .marks-n) _ _ _ _ _ _ (l .inv) _ _ _ _ _
     (omega (arith, c .before .before .before .before .before .before .before .before .before .before .before .before .loop-test .taken, s .pre .0 .marks-n))
-    (g .kept .1 .1 .0) (g .kept .1 .1 .1 .0) (p .kept .0) (g .ensures) (p .ensures)
+    (g .kept .1 .1 .1 .0) (g .kept .1 .1 .1 .1 .0) (p .kept .0) (g .ensures) (p .ensures)
 
 wipe-marks-requires : tie.Need-wipe-marks-requires Inv-loop μ-loop
 wipe-marks-requires c κs = omega (arith, c .before .before .loop .inv .marks-n)

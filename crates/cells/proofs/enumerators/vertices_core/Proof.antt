@@ -1,4 +1,5 @@
 -- `enumerators::vertices_core` meets its contract: the core under the steps of the class, which lead back. Assumes nothing.
+use mathlib.Core.Path.{refl}
 use Rattle.orbits.specs.declared.policy.OrbitPolicy.the-variants as policy
 use Rattle.orbits.specs.Steps.{vertex}
 use Rattle.orbits.specs.Cgal.{vertexΦ}
@@ -15,7 +16,7 @@ slice-aggregate-list-core c = search needs
 list-core-requires : tie.Need-list-core-requires
 list-core-requires c κs =
     let s = c .before .before .before .before .before .before .before .before .before in
-    (scratch-fit (s .pre .0) (steps-are policy.Vertex), symmetric (s .args .rows .now) (s .pre .0 .formed) vertex vertexΦ vertex-serves, s .pre .3, s .pre .1, s .pre .2)
+    (scratch-fit (s .pre .0) (steps-are policy.Vertex), symmetric (s .args .rows .now) (s .pre .0 .formed) vertex vertexΦ vertex-serves, s .pre .3, s .pre .1, s .pre .2, refl)
 
 same-length : tie.Need-same-length
 same-length c = search needs

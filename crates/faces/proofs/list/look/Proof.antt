@@ -26,7 +26,7 @@ slice-aggregate-grow c = search needs
 grow-requires : tie.Need-grow-requires
 grow-requires c κs =
     let s = c .before .before .before .before .before .before .before .before .before .before in
-    (scratch-fit (s .pre .0) (steps-are policy.Face), s .pre .3, s .pre .2)
+    (scratch-fit (s .pre .0) (steps-are policy.Face), s .pre .3, s .pre .2, refl)
 
 same-length : tie.Need-same-length
 same-length c = search needs
@@ -38,7 +38,7 @@ returns-2 : tie.Need-returns-2
 returns-2 c =
     let s = c .before .before .before .before .before .before .before .before .before .before .before .before .before .before .before in
     sighted-more (s .args .rows .now) (s .pre .0 .formed) (s .args .d) (s .pre .1) (s .pre .2) (s .args .marks .now) (s .args .queue .now) (s .args .known) (s .pre .0 .marks-n) (s .pre .3) (s .pre .4) (c .before .before .before .before .before .before .before .before .before .before .if1 .left)
-    (c .before .before .before .before .before .before .before .before .before .is-regular .result) (c .before .before .before .before .before .before .before .before .before .is-regular .ensures) (c .before .before .before .before .before .before .before .before .if2 .taken) _ _ _ (c .before .before .before .before .grow .kept .1 .1 .0) (c .before .before .before .before .grow .ensures)
+    (c .before .before .before .before .before .before .before .before .before .is-regular .result) (c .before .before .before .before .before .before .before .before .before .is-regular .ensures) (c .before .before .before .before .before .before .before .before .if2 .taken) _ _ _ (c .before .before .before .before .grow .kept .1 .1 .1 .0) (c .before .before .before .before .grow .ensures)
 
 ask-requires : tie.Need-ask-requires
 ask-requires c κs =

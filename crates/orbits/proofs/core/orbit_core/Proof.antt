@@ -15,15 +15,19 @@ slice-write-marks c = search needs
 slice-write-output : tie.Need-slice-write-output
 slice-write-output c = search needs
 
+written-out-requires : tie.Need-written-out-requires
+written-out-requires c κs = search needs
+
 flood-requires : tie.Need-flood-requires
 flood-requires c κs =
-    let s = c .before .before .before .before .before .before in
+    let s = c .before .before .before .before .before .before .before in
     let m = s .args .marks .now in
     let o = s .args .output .now in
     let d = s .args .d in (
       fit-same _ _ m o _ _ (s .pre .0) (length-set m d 1) (length-set o 0 d),
       seeded d m o (omega (arith, s .pre .0 .marks-n, s .pre .1)) (omega (arith, s .pre .0 .marks-n, s .pre .0 .out-n)) (s .pre .2),
       zero-le,
+      c .before .before .written-out .ensures,
     )
 
 clear-requires : tie.Need-clear-requires
@@ -31,23 +35,23 @@ clear-requires c κs = search needs
 
 same-length : tie.Need-same-length
 same-length c =
-    let s = c .before .before .before .before .before .before .before .before .before .before .before .before .before .before .before .before in
-    c .before .before .clear .kept .0 ∙ c .before .before .before .before .before .before .before .before .before .flood .kept .1 .1 .0 ∙ length-set (s .args .marks .now) (s .args .d) 1
+    let s = c .before .before .before .before .before .before .before .before .before .before .before .before .before .before .before .before .before in
+    c .before .before .clear .kept .0 ∙ c .before .before .before .before .before .before .before .before .before .flood .kept .1 .1 .1 .0 ∙ length-set (s .args .marks .now) (s .args .d) 1
 
 same-length-2 : tie.Need-same-length-2
 same-length-2 c =
-    let s = c .before .before .before .before .before .before .before .before .before .before .before .before .before .before .before .before in
-    c .before .before .before .before .before .before .before .before .before .flood .kept .1 .1 .1 .0 ∙ length-set (s .args .output .now) 0 (s .args .d)
+    let s = c .before .before .before .before .before .before .before .before .before .before .before .before .before .before .before .before .before in
+    c .before .before .before .before .before .before .before .before .before .flood .kept .1 .1 .1 .1 .0 ∙ length-set (s .args .output .now) 0 (s .args .d)
 
 returns : tie.Need-returns
 returns c =
-    let s = c .before .before .before .before .before .before .before .before .before .before .before .before .before .before .before .before in
+    let s = c .before .before .before .before .before .before .before .before .before .before .before .before .before .before .before .before .before in
     let m = s .args .marks .now in
     let o = s .args .output .now in
     let d = s .args .d in
     let f = c .before .before .before .before .before .before .before .before .before .flood in
     let k = c .before .before .clear in (
-      cleared-all m (f .last .1 .1 .0) (f .last .1 .1 .1 .0) (k .last .0) (f .result) (s .pre .2) (f .kept .1 .1 .0 ∙ length-set m d 1) (k .kept .0) (f .ensures .queue) (k .ensures),
+      cleared-all m (f .last .1 .1 .1 .0) (f .last .1 .1 .1 .1 .0) (k .last .0) (f .result) (s .pre .2) (f .kept .1 .1 .1 .0 ∙ length-set m d 1) (k .kept .0) (f .ensures .queue) (k .ensures),
       flooded _ _ d o _ _ _ (omega (arith, s .pre .0 .out-n, s .pre .0 .formed .sized .some)) (f .ensures),
     )
 
@@ -57,6 +61,7 @@ orbit-core-spec =
     (tie.spec
     slice-write-marks
     slice-write-output
+    written-out-requires
     flood-requires
     clear-requires
     same-length

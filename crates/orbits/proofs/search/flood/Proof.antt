@@ -8,15 +8,13 @@ use Rattle.orbits.proofs.search.flood.Statement.{statement}
 use Rattle.orbits.proofs.search.flood.Tie as tie
 
 abbrev Inv-loop : tie.InvT-loop
-Inv-loop rows steps marks₀ out₀ from seeds k₀ count₀ marks out k count = Flooding rows steps marks₀ out₀ from seeds marks out k count
+Inv-loop rows written steps marks₀ out₀ from seeds k₀ count₀ marks out k count = Flooding rows steps marks₀ out₀ from seeds marks out k count
 
 abbrev μ-loop : tie.MeasureT-loop
-μ-loop rows steps marks₀ out₀ from seeds k₀ count₀ marks out k count = darts rows - k
+μ-loop rows written steps marks₀ out₀ from seeds k₀ count₀ marks out k count = darts rows - k
 
 loop-holds : tie.Need-loop-holds Inv-loop μ-loop
-loop-holds c =
-    let s = c .before .before .before .before in
-    flooding-starts _ _ _ _ _ _ (s .pre .0 .marks-n) (s .pre .2) (s .pre .1)
+loop-holds c = flooding-starts _ _ _ _ _ _ (c .before .before .before .before .pre .0 .marks-n) (c .before .before .before .before .pre .2) (c .before .before .before .before .pre .1)
 
 mul-e : tie.Need-mul-e Inv-loop μ-loop
 mul-e c = omega (arith, c .before .loop .inv .queue .room, c .before .loop .inv .out-n)
@@ -31,12 +29,11 @@ visit-requires c κs =
       fit-same _ _ (s .args .marks .now) (s .args .out .now) _ _ (s .pre .0) (l .inv .marks-n) (l .inv .out-n),
       l .inv .queue,
       dart-below _ _ (s .args .marks .now) (s .args .out .now) _ _ (s .pre .0 .marks-n) _ _ _ _ (l .inv) (c .before .before .before .loop-test .taken),
+      s .pre .3,
     )
 
 add-k : tie.Need-add-k Inv-loop μ-loop
-add-k c =
-    let l = c .before .before .before .before .before .before .before .before .before .loop in
-    omega (arith, c .before .before .before .before .before .before .before .before .loop-test .taken, l .inv .queue .room, l .inv .out-n, c .before .before .before .before .before .before .before .before .before .before .before .before .before .before .good)
+add-k c = omega (arith, c .before .before .before .before .before .before .before .before .loop-test .taken, c .before .before .before .before .before .before .before .before .before .loop .inv .queue .room, c .before .before .before .before .before .before .before .before .before .loop .inv .out-n, c .before .before .before .before .before .before .before .before .before .before .before .before .before .before .good)
 
 loop-less : tie.Need-loop-less Inv-loop μ-loop
 loop-less c =
@@ -51,7 +48,7 @@ loop-again c =
     let l = c .before .before .before .before .before .before .before .before .before .loop in
     let s = c .before .before .before .before .before .before .before .before .before .before .before .before .before .before in
     let v = c .before .before .before .before .visit in
-    flooding-turn _ _ (s .args .marks .now) (s .args .out .now) _ _ (s .pre .0 .marks-n) _ _ _ _ (l .inv) _ _ _ (c .before .before .before .before .before .before .before .before .loop-test .taken) (v .kept .1 .1 .0) (v .kept .1 .1 .1 .0) (v .ensures)
+    flooding-turn _ _ (s .args .marks .now) (s .args .out .now) _ _ (s .pre .0 .marks-n) _ _ _ _ (l .inv) _ _ _ (c .before .before .before .before .before .before .before .before .loop-test .taken) (v .kept .1 .1 .1 .0) (v .kept .1 .1 .1 .1 .0) (v .ensures)
 
 same-length : tie.Need-same-length Inv-loop μ-loop
 same-length c = c .before .loop .inv .marks-n

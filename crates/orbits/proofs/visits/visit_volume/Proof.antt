@@ -1,0 +1,57 @@
+-- `visits::visit_volume` meets its contract, step by step. Assumes nothing.
+use native.Mathlib.Omega.{arith}
+use Rattle.orbits.specs.declared.policy.OrbitPolicy.the-variants.{Volume}
+use Rattle.orbits.specs.Steps.{volume}
+use Rattle.orbits.proofs.StepLaws.{steps-are}
+use Rattle.orbits.proofs.TurnLaws.{visiting-starts, visiting-ends}
+use Rattle.orbits.proofs.VisitLaws.{asked, taken}
+use borrow.Author.Needs.{needs}
+use Rattle.orbits.proofs.visits.visit_volume.Statement.{statement}
+use Rattle.orbits.proofs.visits.visit_volume.Tie as tie
+
+step-requires : tie.Need-step-requires
+step-requires c κs =
+    let v0 = visiting-starts (c .before .before .before .before .before .args .rows .now) volume (c .before .before .before .before .before .args .d) _ _ _ (c .before .before .before .before .before .pre .1) in
+    asked 0 v0 (omega arith) (c .before .before .before .before .before .pre .0) (steps-are Volume) (c .before .before .before .before .before .pre .2)
+
+step-requires-2 : tie.Need-step-requires-2
+step-requires-2 c κs =
+    let v0 = visiting-starts (c .before .before .before .before .before .before .before .before .before .before .before .before .args .rows .now) volume (c .before .before .before .before .before .before .before .before .before .before .before .before .args .d) _ _ _ (c .before .before .before .before .before .before .before .before .before .before .before .before .pre .1) in
+    let v1 = taken 0 v0 (omega arith) (c .before .before .before .before .before .before .step .kept .1 .1 .0) (c .before .before .before .before .before .before .step .kept .1 .1 .1 .0) (c .before .before .before .before .before .before .step .ensures) in
+    asked 1 v1 (omega arith) (c .before .before .before .before .before .before .before .before .before .before .before .before .pre .0) (steps-are Volume) (c .before .before .before .before .before .before .before .before .before .before .before .before .pre .2)
+
+step-requires-3 : tie.Need-step-requires-3
+step-requires-3 c κs =
+    let v0 = visiting-starts (c .before .before .before .before .before .before .before .before .before .before .before .before .before .before .before .before .before .before .before .args .rows .now) volume (c .before .before .before .before .before .before .before .before .before .before .before .before .before .before .before .before .before .before .before .args .d) _ _ _ (c .before .before .before .before .before .before .before .before .before .before .before .before .before .before .before .before .before .before .before .pre .1) in
+    let v1 = taken 0 v0 (omega arith) (c .before .before .before .before .before .before .before .before .before .before .before .before .before .step .kept .1 .1 .0) (c .before .before .before .before .before .before .before .before .before .before .before .before .before .step .kept .1 .1 .1 .0) (c .before .before .before .before .before .before .before .before .before .before .before .before .before .step .ensures) in
+    let v2 = taken 1 v1 (omega arith) (c .before .before .before .before .before .before .step2 .kept .1 .1 .0) (c .before .before .before .before .before .before .step2 .kept .1 .1 .1 .0) (c .before .before .before .before .before .before .step2 .ensures) in
+    asked 2 v2 (omega arith) (c .before .before .before .before .before .before .before .before .before .before .before .before .before .before .before .before .before .before .before .pre .0) (steps-are Volume) (c .before .before .before .before .before .before .before .before .before .before .before .before .before .before .before .before .before .before .before .pre .2)
+
+same-length : tie.Need-same-length
+same-length c =
+    let v0 = visiting-starts (c .before .before .before .before .before .before .before .before .before .before .before .before .before .before .before .before .before .before .before .before .before .before .before .before .args .rows .now) volume (c .before .before .before .before .before .before .before .before .before .before .before .before .before .before .before .before .before .before .before .before .before .before .before .before .args .d) _ _ _ (c .before .before .before .before .before .before .before .before .before .before .before .before .before .before .before .before .before .before .before .before .before .before .before .before .pre .1) in
+    let v1 = taken 0 v0 (omega arith) (c .before .before .before .before .before .before .before .before .before .before .before .before .before .before .before .before .before .before .step .kept .1 .1 .0) (c .before .before .before .before .before .before .before .before .before .before .before .before .before .before .before .before .before .before .step .kept .1 .1 .1 .0) (c .before .before .before .before .before .before .before .before .before .before .before .before .before .before .before .before .before .before .step .ensures) in
+    let v2 = taken 1 v1 (omega arith) (c .before .before .before .before .before .before .before .before .before .before .before .step2 .kept .1 .1 .0) (c .before .before .before .before .before .before .before .before .before .before .before .step2 .kept .1 .1 .1 .0) (c .before .before .before .before .before .before .before .before .before .before .before .step2 .ensures) in
+    let v3 = taken 2 v2 (omega arith) (c .before .before .before .before .step3 .kept .1 .1 .0) (c .before .before .before .before .step3 .kept .1 .1 .1 .0) (c .before .before .before .before .step3 .ensures) in
+    v3 .marks-n
+
+same-length-2 : tie.Need-same-length-2
+same-length-2 c =
+    let v0 = visiting-starts (c .before .before .before .before .before .before .before .before .before .before .before .before .before .before .before .before .before .before .before .before .before .before .before .before .args .rows .now) volume (c .before .before .before .before .before .before .before .before .before .before .before .before .before .before .before .before .before .before .before .before .before .before .before .before .args .d) _ _ _ (c .before .before .before .before .before .before .before .before .before .before .before .before .before .before .before .before .before .before .before .before .before .before .before .before .pre .1) in
+    let v1 = taken 0 v0 (omega arith) (c .before .before .before .before .before .before .before .before .before .before .before .before .before .before .before .before .before .before .step .kept .1 .1 .0) (c .before .before .before .before .before .before .before .before .before .before .before .before .before .before .before .before .before .before .step .kept .1 .1 .1 .0) (c .before .before .before .before .before .before .before .before .before .before .before .before .before .before .before .before .before .before .step .ensures) in
+    let v2 = taken 1 v1 (omega arith) (c .before .before .before .before .before .before .before .before .before .before .before .step2 .kept .1 .1 .0) (c .before .before .before .before .before .before .before .before .before .before .before .step2 .kept .1 .1 .1 .0) (c .before .before .before .before .before .before .before .before .before .before .before .step2 .ensures) in
+    let v3 = taken 2 v2 (omega arith) (c .before .before .before .before .step3 .kept .1 .1 .0) (c .before .before .before .before .step3 .kept .1 .1 .1 .0) (c .before .before .before .before .step3 .ensures) in
+    v3 .out-n
+
+returns : tie.Need-returns
+returns c =
+    let v0 = visiting-starts (c .before .before .before .before .before .before .before .before .before .before .before .before .before .before .before .before .before .before .before .before .before .before .before .before .args .rows .now) volume (c .before .before .before .before .before .before .before .before .before .before .before .before .before .before .before .before .before .before .before .before .before .before .before .before .args .d) _ _ _ (c .before .before .before .before .before .before .before .before .before .before .before .before .before .before .before .before .before .before .before .before .before .before .before .before .pre .1) in
+    let v1 = taken 0 v0 (omega arith) (c .before .before .before .before .before .before .before .before .before .before .before .before .before .before .before .before .before .before .step .kept .1 .1 .0) (c .before .before .before .before .before .before .before .before .before .before .before .before .before .before .before .before .before .before .step .kept .1 .1 .1 .0) (c .before .before .before .before .before .before .before .before .before .before .before .before .before .before .before .before .before .before .step .ensures) in
+    let v2 = taken 1 v1 (omega arith) (c .before .before .before .before .before .before .before .before .before .before .before .step2 .kept .1 .1 .0) (c .before .before .before .before .before .before .before .before .before .before .before .step2 .kept .1 .1 .1 .0) (c .before .before .before .before .before .before .before .before .before .before .before .step2 .ensures) in
+    let v3 = taken 2 v2 (omega arith) (c .before .before .before .before .step3 .kept .1 .1 .0) (c .before .before .before .before .step3 .kept .1 .1 .1 .0) (c .before .before .before .before .step3 .ensures) in
+    visiting-ends _ _ _ _ _ _ _ _ _ _ v3 (omega arith)
+
+pub visit-volume-spec : {M : Type 1} → statement M
+visit-volume-spec =
+    tie.close
+    (tie.spec step-requires step-requires-2 step-requires-3 same-length same-length-2 returns)

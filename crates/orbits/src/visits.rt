@@ -1,0 +1,149 @@
+// A visit puts behind the queue what the steps lead to from a dart. For the four cells the steps are written out, so that no list of steps is read anew at every dart.
+use crate::policy::EDGE;
+use crate::policy::FACE;
+use crate::policy::VERTEX;
+use crate::policy::VOLUME;
+use crate::search::step;
+ghost use mathlib.Core.Path.{_≡_};
+ghost use mathlib.Core.Bool.{true};
+ghost use Prim.Native.Nat.{ℕ, _<_};
+ghost use lib.ListN.{length, take};
+ghost use Rattle.betas.specs.Betas.{darts};
+ghost use Rattle.orbits.specs.Steps.{vertex, edge, face, volume};
+ghost use Rattle.orbits.specs.Search.{visit as visitOf};
+ghost use Rattle.orbits.specs.Loans.{Queue, Grown, Scratch, Fit};
+ghost use Rattle.orbits.specs.Visits.{stepsBy};
+
+// The lists of steps whose visit is written out, and any other.
+pub enum Written {
+    Vertex,
+    Edge,
+    Face,
+    Volume,
+    Other,
+}
+
+// Whether two lists of steps are the same.
+fn same(a: &[u8], b: &[u8]) -> bool
+    ensures { λ r. ⌜ (r ≡ true → now (a .entry) ≡ now (b .entry)) ⌝ }
+{
+    if a.len() != b.len() {
+        return false;
+    }
+    let mut j = 0;
+    while j < a.len() {
+        if a[j] != b[j] {
+            return false;
+        }
+        j += 1;
+    }
+    true
+}
+
+// Which visit is written out for the steps.
+pub fn written_out(steps: &[u8]) -> Written
+    ensures { λ w. ⌜ stepsBy w (now (steps .entry)) ≡ now (steps .entry) ⌝ }
+{
+    let vertex = VERTEX;
+    if same(steps, &vertex) {
+        return Written::Vertex;
+    }
+    let edge = EDGE;
+    if same(steps, &edge) {
+        return Written::Edge;
+    }
+    let face = FACE;
+    if same(steps, &face) {
+        return Written::Face;
+    }
+    let volume = VOLUME;
+    if same(steps, &volume) {
+        return Written::Volume;
+    }
+    Written::Other
+}
+
+// Visits d by the steps of a vertex.
+fn visit_vertex(rows: &[u32], marks: &mut [u8], out: &mut [u32], count: usize, d: u32) -> usize
+    requires { ⌜ Scratch (now rows) (now marks) (now out) × Queue (now marks) (now out) count × (d < darts (now rows)) ⌝ }
+    ensures { λ r. ⌜ Grown (now (out .entry)) count (visitOf (now (rows .entry)) vertex d (take count (now (out .entry)))) (now (marks .exit)) (now (out .exit)) r ⌝ }
+{
+    let k1 = step(rows, 0x12, marks, out, count, d);
+    let k2 = step(rows, 0x20, marks, out, k1, d);
+    let k3 = step(rows, 0x13, marks, out, k2, d);
+    let k4 = step(rows, 0x30, marks, out, k3, d);
+    let k5 = step(rows, 0x23, marks, out, k4, d);
+    step(rows, 0x32, marks, out, k5, d)
+}
+
+// Visits d by the steps of an edge.
+fn visit_edge(rows: &[u32], marks: &mut [u8], out: &mut [u32], count: usize, d: u32) -> usize
+    requires { ⌜ Scratch (now rows) (now marks) (now out) × Queue (now marks) (now out) count × (d < darts (now rows)) ⌝ }
+    ensures { λ r. ⌜ Grown (now (out .entry)) count (visitOf (now (rows .entry)) edge d (take count (now (out .entry)))) (now (marks .exit)) (now (out .exit)) r ⌝ }
+{
+    let k1 = step(rows, 2, marks, out, count, d);
+    step(rows, 3, marks, out, k1, d)
+}
+
+// Visits d by the steps of a face.
+fn visit_face(rows: &[u32], marks: &mut [u8], out: &mut [u32], count: usize, d: u32) -> usize
+    requires { ⌜ Scratch (now rows) (now marks) (now out) × Queue (now marks) (now out) count × (d < darts (now rows)) ⌝ }
+    ensures { λ r. ⌜ Grown (now (out .entry)) count (visitOf (now (rows .entry)) face d (take count (now (out .entry)))) (now (marks .exit)) (now (out .exit)) r ⌝ }
+{
+    let k1 = step(rows, 1, marks, out, count, d);
+    let k2 = step(rows, 0, marks, out, k1, d);
+    step(rows, 3, marks, out, k2, d)
+}
+
+// Visits d by the steps of a volume.
+fn visit_volume(rows: &[u32], marks: &mut [u8], out: &mut [u32], count: usize, d: u32) -> usize
+    requires { ⌜ Scratch (now rows) (now marks) (now out) × Queue (now marks) (now out) count × (d < darts (now rows)) ⌝ }
+    ensures { λ r. ⌜ Grown (now (out .entry)) count (visitOf (now (rows .entry)) volume d (take count (now (out .entry)))) (now (marks .exit)) (now (out .exit)) r ⌝ }
+{
+    let k1 = step(rows, 1, marks, out, count, d);
+    let k2 = step(rows, 0, marks, out, k1, d);
+    step(rows, 2, marks, out, k2, d)
+}
+
+// Visits d by a list of steps.
+fn visit_list(
+    rows: &[u32],
+    steps: &[u8],
+    marks: &mut [u8],
+    out: &mut [u32],
+    count: usize,
+    d: u32,
+) -> usize
+    requires { ⌜ Fit (now rows) (now steps) (now marks) (now out) × Queue (now marks) (now out) count × (d < darts (now rows)) ⌝ }
+    ensures { λ r. ⌜ Grown (now (out .entry)) count (visitOf (now (rows .entry)) (now (steps .entry)) d (take count (now (out .entry)))) (now (marks .exit)) (now (out .exit)) r ⌝ }
+{
+    let mut k = count;
+    let mut j = 0;
+    while j < steps.len() {
+        k = step(rows, steps[j], marks, out, k, d);
+        j += 1;
+    }
+    k
+}
+
+// Visits d by a list of steps, written out or not.
+pub fn visit(
+    rows: &[u32],
+    written: Written,
+    steps: &[u8],
+    marks: &mut [u8],
+    out: &mut [u32],
+    count: usize,
+    d: u32,
+) -> usize
+    requires { ⌜ Fit (now rows) (now steps) (now marks) (now out) × Queue (now marks) (now out) count × (d < darts (now rows)) × (stepsBy written (now steps) ≡ now steps) ⌝ }
+    ensures { λ r. ⌜ Grown (now (out .entry)) count (visitOf (now (rows .entry)) (now (steps .entry)) d (take count (now (out .entry)))) (now (marks .exit)) (now (out .exit)) r ⌝ }
+{
+    match written {
+        Written::Vertex => visit_vertex(rows, marks, out, count, d),
+        Written::Edge => visit_edge(rows, marks, out, count, d),
+        Written::Face => visit_face(rows, marks, out, count, d),
+        Written::Volume => visit_volume(rows, marks, out, count, d),
+        Written::Other => visit_list(rows, steps, marks, out, count, d),
+    }
+}

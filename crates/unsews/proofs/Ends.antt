@@ -36,24 +36,24 @@ not-over : (l stop : ℕ) → l ≢ 0 → l ≢ stop → legOver l stop ≡ fals
 unfolding legOver
 not-over l stop n m = simp (ne-eqb l 0 n, ne-eqb l stop m)
 
-module _ (ld rd i j stop : ℕ) (hi : i < 3) (hj : j < 3) (base : List ℕ) where
+module _ (exact : Bool) (ld rd i j stop : ℕ) (hi : i < 3) (hj : j < 3) (base : List ℕ) where
   -- w is where the walk ends, with m steps to come
   abbrev Ends : ℕ → Type 0
   Ends f =
       (rows : List ℕ) (l r k : ℕ) (w : LegOut) (t : Tally) (g m : ℕ) → WellFormed rows → l < darts rows → r < darts rows →
       ((b d : ℕ) → b < 3 → beta base b d ≡ beta rows b d) → walk (stepOf true ld rd) f rows i j stop l r k ≡ w → isDone (w .leg .answer) ≡ true →
-      (w .leg .l ≡ 0) ⊎ (w .leg .l ≡ stop) → t .l ≡ l → t .r ≡ r → w .leg .steps ≡ k + m → m ≤ g → tallyFrom g base i j stop t .l ≡ w .leg .l
+      (w .leg .l ≡ 0) ⊎ (w .leg .l ≡ stop) → t .l ≡ l → t .r ≡ r → w .leg .steps ≡ k + m → m ≤ g → tallyFrom exact g base i j stop t .l ≡ w .leg .l
 
   stops : (l r k : ℕ) (rows : List ℕ) (w : LegOut) (t : Tally) (g : ℕ) → w ≡ legOut (legAt pass l r k) rows → (w .leg .l ≡ 0) ⊎ (w .leg .l ≡ stop) → t .l ≡ l →
-      tallyFrom g base i j stop t .l ≡ w .leg .l
+      tallyFrom exact g base i j stop t .l ≡ w .leg .l
   stops l r k rows w t g p en tl =
       let at : t .l ≡ w .leg .l = tl ∙ ap (λ (x : LegOut). x .leg .l) (sym p) in
-      ap (λ (x : Tally). x .l) (sym (tally-over g base i j stop t true (sym (ap (λ (x : ℕ). legOver x stop) at ∙ over (w .leg .l) stop en)) refl)) ∙ at
+      ap (λ (x : Tally). x .l) (sym (tally-over exact g base i j stop t true (sym (ap (λ (x : ℕ). legOver x stop) at ∙ over (w .leg .l) stop en)) refl)) ∙ at
 
   goes-on : (f : ℕ) → Ends f → (rows : List ℕ) (l r k : ℕ) (w : LegOut) (t : Tally) (g m : ℕ) → WellFormed rows → l < darts rows → r < darts rows →
       ((b d : ℕ) → b < 3 → beta base b d ≡ beta rows b d) → isDone (w .leg .answer) ≡ true → (w .leg .l ≡ 0) ⊎ (w .leg .l ≡ stop) → t .l ≡ l → t .r ≡ r →
       w .leg .steps ≡ k + m → m ≤ g → l ≢ 0 → l ≢ stop → (rows′ : List ℕ) → Changed true rows l r rows′ →
-      walk (stepOf true ld rd) f rows′ i j stop (beta rows′ i l) (beta rows′ j r) (suc k) ≡ w → tallyFrom g base i j stop t .l ≡ w .leg .l
+      walk (stepOf true ld rd) f rows′ i j stop (beta rows′ i l) (beta rows′ j r) (suc k) ≡ w → tallyFrom exact g base i j stop t .l ≡ w .leg .l
   unfolding tallied
   goes-on f ih rows l r k w t g m s hl hr low dn en tl tr st le nl ns rows′ h q =
       let s′ = changed-formed true rows l r rows′ s h hl hr nl in
@@ -63,18 +63,18 @@ module _ (ld rd i j stop : ℕ) (hi : i < 3) (hj : j < 3) (base : List ℕ) wher
       let n : m ≡ suc (v .more) = omega (arith, v .steps, st) in
       let b : false ≡ legOver (t .l) stop = sym (ap (λ (x : ℕ). legOver x stop) tl ∙ not-over l stop nl ns) in
       let rest =
-      ih rows′ (beta rows′ i l) (beta rows′ j r) (suc k) w (tallied base i j t) (g - 1) (v .more) s′ (s′ .below i l) (s′ .below j r)
+      ih rows′ (beta rows′ i l) (beta rows′ j r) (suc k) w (tallied exact base i j t) (g - 1) (v .more) s′ (s′ .below i l) (s′ .below j r)
       (λ c d hc. low c d hc ∙ sym (low′ c d hc)) q dn en
       (ap (λ (x : ℕ). beta base i x) tl ∙ low i l hi ∙ sym (low′ i l hi))
       (ap (λ (x : ℕ). beta base j x) tr ∙ low j r hj ∙ sym (low′ j r hj))
       (v .steps) (omega arith) in
-      ap (λ (x : Tally). x .l) (sym (tally-next g base i j stop t false b (tallied base i j t) (omega arith) refl refl)) ∙ rest
+      ap (λ (x : Tally). x .l) (sym (tally-next exact g base i j stop t false b (tallied exact base i j t) (omega arith) refl refl)) ∙ rest
 
   ends-on : (f : ℕ) → Ends f → Ends (suc f)
   ends-on f ih rows l r k w t g m s hl hr low e dn en tl tr st le =
       go (turn-of true ld rd i j stop f rows l r k (λ nl d. step-done rows _ _ ld rd l r true s nl refl d) (done-of true ld rd i j stop (suc f) rows l r k w e dn))
     where
-      go : Turn true ld rd i j stop f rows l r k → tallyFrom g base i j stop t .l ≡ w .leg .l
+      go : Turn true ld rd i j stop f rows l r k → tallyFrom exact g base i j stop t .l ≡ w .leg .l
       go (ends z q) = stops l r k rows w t g (sym e ∙ q (stepOf true ld rd) rows) en tl
       go (goes nl ns rows′ h q) = goes-on f ih rows l r k w t g m s hl hr low dn en tl tr st le nl ns rows′ h (sym q ∙ e)
 
@@ -86,9 +86,9 @@ module _ (ld rd i j stop : ℕ) (hi : i < 3) (hj : j < 3) (base : List ℕ) wher
   leg-at zero = ends-not
   leg-at (suc f) = ends-on f (leg-at f)
 
-module _ (rows : List ℕ) (ld rd : ℕ) (s : WellFormed rows) (hl : ld < darts rows) (nl : ld ≢ 0) (hr : rd < darts rows)
+module _ (exact : Bool) (rows : List ℕ) (ld rd : ℕ) (s : WellFormed rows) (hl : ld < darts rows) (nl : ld ≢ 0) (hr : rd < darts rows)
     (rows₁ : List ℕ) (h : Changed true rows ld rd rows₁) (w : LegOut) (e : legOn true rows₁ ld rd ≡ w) (base : List ℕ) (k : Leaves rows base) where
-  first-at : isDone (w .leg .answer) ≡ true → firstTally base ld rd .l ≡ w .leg .l
+  first-at : isDone (w .leg .answer) ≡ true → firstTally exact base ld rd .l ≡ w .leg .l
   unfolding firstTally startTally
   first-at d =
       let s₁ = changed-formed true rows ld rd rows₁ s h hl hr nl in
@@ -96,12 +96,12 @@ module _ (rows : List ℕ) (ld rd : ℕ) (s : WellFormed rows) (hl : ld < darts 
       let low : (b x : ℕ) → b < 3 → beta base b x ≡ beta rows₁ b x = λ b x hb. k .low b x hb ∙ sym (low₁ b x hb) in
       let g : Walked true rows₁ 1 0 (beta rows₁ 1 ld) (beta rows₁ 0 rd) 0 w =
       rw (sym e) (walked true ld rd 1 0 ld (omega arith) (omega arith) (suc (length rows₁)) rows₁ (beta rows₁ 1 ld) (beta rows₁ 0 rd) 0 s₁ (s₁ .below 1 ld) (s₁ .below 0 rd)) in
-      leg-at ld rd 1 0 ld (omega arith) (omega arith) base (suc (length rows₁)) rows₁ (beta rows₁ 1 ld) (beta rows₁ 0 rd) 0 w (startTally base ld rd) (length base) (g .more)
+      leg-at exact ld rd 1 0 ld (omega arith) (omega arith) base (suc (length rows₁)) rows₁ (beta rows₁ 1 ld) (beta rows₁ 0 rd) 0 w (startTally exact base ld rd) (length base) (g .more)
       s₁ (s₁ .below 1 ld) (s₁ .below 0 rd) low e d (trace₁ true rows ld rd s hl nl hr rows₁ h w e d .1 .ended)
       (low 1 ld (omega arith)) (low 0 rd (omega arith)) (g .steps)
       (omega (arith, g .fell, left-le true rows₁, k .long, changed-length true rows ld rd rows₁ s h hl hr nl))
 
-  back-at : (u : LegOut) → legBack true (w .rows) ld rd ≡ u → isDone (u .leg .answer) ≡ true → (t : Tally) → backTally base ld rd t .l ≡ u .leg .l
+  back-at : (u : LegOut) → legBack true (w .rows) ld rd ≡ u → isDone (u .leg .answer) ≡ true → (t : Tally) → backTally exact base ld rd t .l ≡ u .leg .l
   unfolding backTally
   back-at u e₂ d t =
       let a = leaves₁ true rows ld rd s hl nl hr rows₁ h w e in
@@ -109,7 +109,7 @@ module _ (rows : List ℕ) (ld rd : ℕ) (s : WellFormed rows) (hl : ld < darts 
       let s₂ : WellFormed (w .rows) = a .formed in
       let g : Walked true (w .rows) 0 1 (beta (w .rows) 0 ld) (beta (w .rows) 1 rd) 0 u =
       rw (sym e₂) (walked true ld rd 0 1 0 (omega arith) (omega arith) (suc (length (w .rows))) (w .rows) (beta (w .rows) 0 ld) (beta (w .rows) 1 rd) 0 s₂ (s₂ .below 0 ld) (s₂ .below 1 rd)) in
-      leg-at ld rd 0 1 0 (omega arith) (omega arith) base (suc (length (w .rows))) (w .rows) (beta (w .rows) 0 ld) (beta (w .rows) 1 rd) 0 u
+      leg-at exact ld rd 0 1 0 (omega arith) (omega arith) base (suc (length (w .rows))) (w .rows) (beta (w .rows) 0 ld) (beta (w .rows) 1 rd) 0 u
       (record { left = t .left; right = t .right; count = t .count; l = beta base 0 ld; r = beta base 1 rd }) (length base) (g .more)
       s₂ (s₂ .below 0 ld) (s₂ .below 1 rd) low e₂ d (at-null u e₂ d)
       (low 0 ld (omega arith)) (low 1 rd (omega arith)) (g .steps)
@@ -119,32 +119,32 @@ module _ (rows : List ℕ) (ld rd : ℕ) (s : WellFormed rows) (hl : ld < darts 
       at-null v f dn = trace₂ true rows ld rd s hl nl hr rows₁ h w e v f dn .1 .ended
 
 -- the theorem, of the rows that a 3-unlink has left
-module _ (rows : List ℕ) (ld : ℕ) (s : WellFormed rows) (nl : ld ≢ 0) (hl : ld < darts rows) (t : isDone (threeUnlinkOn rows ld .answer) ≡ true) where
+module _ (exact : Bool) (rows : List ℕ) (ld : ℕ) (s : WellFormed rows) (nl : ld ≢ 0) (hl : ld < darts rows) (t : isDone (threeUnlinkOn rows ld .answer) ≡ true) where
   abbrev rd : ℕ
   rd = beta rows 3 ld
 
   legs : Success true (beta rows 3 ld) rows ld (beta rows 3 ld) (threeUnlinkOn rows ld)
   legs = unlink-success rows ld (beta rows 3 ld) s nl refl (had-image rows ld s nl hl t) t
 
-  pub first-over : (firstTally (threeUnlinkOn rows ld .rows) ld (beta rows 3 ld) .l ≡ 0) ⊎ (firstTally (threeUnlinkOn rows ld .rows) ld (beta rows 3 ld) .l ≡ ld)
+  pub first-over : (firstTally exact (threeUnlinkOn rows ld .rows) ld (beta rows 3 ld) .l ≡ 0) ⊎ (firstTally exact (threeUnlinkOn rows ld .rows) ld (beta rows 3 ld) .l ≡ ld)
   first-over = go (threeUnlinkOn rows ld) legs
     where
-      go : (o : Out) → Success true rd rows ld rd o → (firstTally (o .rows) ld rd .l ≡ 0) ⊎ (firstTally (o .rows) ld rd .l ≡ ld)
+      go : (o : Out) → Success true rd rows ld rd o → (firstTally exact (o .rows) ld rd .l ≡ 0) ⊎ (firstTally exact (o .rows) ld rd .l ≡ ld)
       go o (closed rows₁ h w e d z q) =
-          let p : firstTally (w .rows) ld rd .l ≡ w .leg .l = first-at rows ld rd s hl nl (s .below 3 ld) rows₁ h w e (w .rows) (leaves₁ true rows ld rd s hl nl (s .below 3 ld) rows₁ h w e) d in
+          let p : firstTally exact (w .rows) ld rd .l ≡ w .leg .l = first-at exact rows ld rd s hl nl (s .below 3 ld) rows₁ h w e (w .rows) (leaves₁ true rows ld rd s hl nl (s .below 3 ld) rows₁ h w e) d in
           rw q (rw p (trace₁ true rows ld rd s hl nl (s .below 3 ld) rows₁ h w e d .1 .ended))
       go o (opened rows₁ h w e d zl zr u e₂ d₂ q) =
-          let p : firstTally (u .rows) ld rd .l ≡ w .leg .l = first-at rows ld rd s hl nl (s .below 3 ld) rows₁ h w e (u .rows) (leaves₂ true rows ld rd s hl nl (s .below 3 ld) rows₁ h w e u e₂) d in
+          let p : firstTally exact (u .rows) ld rd .l ≡ w .leg .l = first-at exact rows ld rd s hl nl (s .below 3 ld) rows₁ h w e (u .rows) (leaves₂ true rows ld rd s hl nl (s .below 3 ld) rows₁ h w e u e₂) d in
           rw q (inl (p ∙ zl))
 
-  pub back-over : (x : Tally) → firstTally (threeUnlinkOn rows ld .rows) ld (beta rows 3 ld) .l ≡ 0 → backTally (threeUnlinkOn rows ld .rows) ld (beta rows 3 ld) x .l ≡ 0
+  pub back-over : (x : Tally) → firstTally exact (threeUnlinkOn rows ld .rows) ld (beta rows 3 ld) .l ≡ 0 → backTally exact (threeUnlinkOn rows ld .rows) ld (beta rows 3 ld) x .l ≡ 0
   back-over x = go (threeUnlinkOn rows ld) legs
     where
-      go : (o : Out) → Success true rd rows ld rd o → firstTally (o .rows) ld rd .l ≡ 0 → backTally (o .rows) ld rd x .l ≡ 0
+      go : (o : Out) → Success true rd rows ld rd o → firstTally exact (o .rows) ld rd .l ≡ 0 → backTally exact (o .rows) ld rd x .l ≡ 0
       go o (closed rows₁ h w e d z q) c =
-          absurd (z (sym (first-at rows ld rd s hl nl (s .below 3 ld) rows₁ h w e (w .rows) (leaves₁ true rows ld rd s hl nl (s .below 3 ld) rows₁ h w e) d)
-          ∙ ap (λ (y : Out). firstTally (y .rows) ld rd .l) (sym q) ∙ c))
+          absurd (z (sym (first-at exact rows ld rd s hl nl (s .below 3 ld) rows₁ h w e (w .rows) (leaves₁ true rows ld rd s hl nl (s .below 3 ld) rows₁ h w e) d)
+          ∙ ap (λ (y : Out). firstTally exact (y .rows) ld rd .l) (sym q) ∙ c))
       go o (opened rows₁ h w e d zl zr u e₂ d₂ q) c =
           rw q
-          (back-at rows ld rd s hl nl (s .below 3 ld) rows₁ h w e (u .rows) (leaves₂ true rows ld rd s hl nl (s .below 3 ld) rows₁ h w e u e₂) u e₂ d₂ x
+          (back-at exact rows ld rd s hl nl (s .below 3 ld) rows₁ h w e (u .rows) (leaves₂ true rows ld rd s hl nl (s .below 3 ld) rows₁ h w e u e₂) u e₂ d₂ x
           ∙ ⊎-elim (λ (a : u .leg .l ≡ 0). a) (λ (a : u .leg .l ≡ 0). a) (trace₂ true rows ld rd s hl nl (s .below 3 ld) rows₁ h w e u e₂ d₂ .1 .ended))

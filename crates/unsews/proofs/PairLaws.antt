@@ -3,27 +3,31 @@
 --   item-of               a split of two cells, from their identifiers
 --   open-none, open-some  the split at the near end of l: not asked for, or asked for
 --   pair-is               the three together
+--   pair-few              they are three at most
 -- Assumes nothing.
-use Prim.Native.Nat.{ℕ, _<_}
+use Prim.Native.Nat.{ℕ, _≤_, _<_}
+use native.Mathlib.Omega.{arith}
 use mathlib.Core.Path.{_≡_, refl, sym, ap, _∙_}
 use mathlib.Core.Logic.{_≢_}
-use mathlib.Core.Bool.{Bool, true}
-use mathlib.Core.List.{List, []}
+use mathlib.Core.Bool.{Bool, true, false, cond, not, _&&_}
+use mathlib.Core.List.{List, [], _∷_, _++_}
 use lib.Dec.{eqb}
+use lib.ListN.{length, length-append}
 use borrow.Author.Tests.{eq-eqb, ne-eqb}
 use Rattle.betas.specs.Betas.{beta, darts}
 use Rattle.betas.specs.Maps.{WellFormed}
 use Rattle.plan.specs.declared.Class.{Class}
 use Rattle.plan.specs.declared.Class.the-variants.{Vertex, Edge}
+use Rattle.plan.specs.declared.Kind.{Kind}
 use Rattle.plan.specs.declared.Kind.the-variants.{Split}
 use Rattle.plan.specs.declared.Entry.{Entry}
 use Rattle.sews.specs.Ids.{vertexId, edgeId}
 use Rattle.sews.specs.declared.items.Item.{Item}
 use Rattle.sews.specs.declared.items.Items.{Items}
-use Rattle.sews.specs.Entries.{entriesIf, listed, allOf, larger}
+use Rattle.sews.specs.Entries.{entryOf, entriesIf, listed, allOf, larger}
 use Rattle.sews.proofs.EntryLaws.{none-asked, three-items}
 use Rattle.sews.proofs.SideLaws.{larger-below}
-use Rattle.unsews.specs.Pairs.{threeFar, pairEntries}
+use Rattle.unsews.specs.Pairs.{threeFar, pairEntries, pairMost}
 
 module _ (rows : List ℕ) (d : ℕ) where
   pub far-is : (b₁ b₂ far : ℕ) → b₁ ≡ beta rows 1 d → b₂ ≡ beta rows 2 d → far ≡ larger b₁ b₂ → far ≡ threeFar rows d
@@ -54,3 +58,26 @@ pub pair-is : (rows : List ℕ) (l r far : ℕ) (a b d : Item) → listed a ≡ 
 unfolding pairEntries
 pair-is rows l r far a b d p f q s =
     three-items a b d _ _ _ p (q ∙ ap (λ (x : ℕ). entriesIf true Vertex Split (vertexId rows x) (vertexId rows r)) f) s
+
+one-or-none : (asked : Bool) (cells : Class) (kind : Kind) (a b : ℕ) → length (entriesIf asked cells kind a b) ≤ 1
+unfolding entriesIf
+one-or-none asked cells kind a b = go (asked && not (eqb a b)) (entryOf cells kind a b)
+  where
+    go : (x : Bool) (e : Entry) → length (cond x (e ∷ []) []) ≤ 1
+    go true e = omega arith
+    go false e = omega arith
+
+pub pair-few : (rows : List ℕ) (l r : ℕ) → length (pairEntries rows l r) ≤ pairMost
+unfolding pairEntries
+pair-few rows l r =
+    let es : List Entry = entriesIf true Edge Split (edgeId rows l) (edgeId rows r) in
+    let fs : List Entry = entriesIf true Vertex Split (vertexId rows (threeFar rows l)) (vertexId rows r) in
+    let gs : List Entry = entriesIf (eqb (beta rows 0 l) 0) Vertex Split (vertexId rows l) (vertexId rows (threeFar rows r)) in
+    omega (
+      arith,
+      length-append es (fs ++ gs),
+      length-append fs gs,
+      one-or-none true Edge Split (edgeId rows l) (edgeId rows r),
+      one-or-none true Vertex Split (vertexId rows (threeFar rows l)) (vertexId rows r),
+      one-or-none (eqb (beta rows 0 l) 0) Vertex Split (vertexId rows l) (vertexId rows (threeFar rows r)),
+    )

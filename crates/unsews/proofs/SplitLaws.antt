@@ -1,10 +1,13 @@
 -- The plan of a 3-unsew, part by part, with the values as the code has them.
 --   started, closed-tally, open-tally   the tallies
 --   back-none, back-some, first-is      the entries of the two legs
+--   back-written                              the second leg written
 --   pair-fits, written-turn, leg-ends   a turn of the loop that writes, and its end
 --   written-next      entries behind entries
 --   splits-length, splits-written       the whole plan
---   entries-are, entries-count          the entries of the 3-unsew and how many there are, from the tallies
+--   written-done                        the plan written where the entries fit
+--   entries-are                         the entries of the 3-unsew, from a tally, exact or not
+--   entries-most, entries-count         how many there are: at most what a tally counts, and just that if it is exact
 -- Assumes nothing.
 use Prim.Native.Nat.{ℕ, _+_, _-_, _<_, _≤_}
 use native.Mathlib.Omega.{arith}
@@ -16,44 +19,49 @@ use mathlib.Core.List.{List, [], _∷_, _++_, append-assoc}
 use lib.Dec.{eqb}
 use lib.ListN.{length, length-append}
 use borrow.Author.Tests.{eq-eqb, ne-eqb}
+use Rattle.betas.specs.declared.error.Answer.the-variants.{Done}
 use Rattle.betas.specs.Betas.{beta}
 use Rattle.plan.specs.declared.Class.the-variants.{Face}
 use Rattle.plan.specs.declared.Entry.{Entry}
-use Rattle.plan.specs.Plan.{splitOf, written}
+use Rattle.plan.specs.Plan.{splitOf, written, roomOf}
 use Rattle.sews.specs.Entries.{writtenAll}
-use Rattle.sews.proofs.EntryLaws.{written-both}
+use Rattle.sews.specs.Sewn.{settles, settled}
+use Rattle.sews.proofs.EntryLaws.{written-both, written-put}
+use Rattle.sews.proofs.SewnLaws.{settles-done}
 use Rattle.unsews.specs.declared.tally.Tally.{Tally}
-use Rattle.unsews.specs.Pairs.{pairEntries, legOver, entriesFrom, tallyFrom}
+use Rattle.unsews.specs.Pairs.{pairEntries, pairCount, legOver, entriesFrom, tallyFrom}
 use Rattle.unsews.specs.Three.{startTally, firstTally, backTally, wholeTally, firstEntries, backEntries, splitsOf, threeEntries}
-use Rattle.unsews.proofs.LegLaws.{counted, entries-next}
+use Rattle.unsews.proofs.LegLaws.{Alike, agreed, Counts, pair-counts, counted, entries-next}
 
 -- the tallies
-module _ (rows : List ℕ) (ld rd : ℕ) where
-  pub started : (k x y : ℕ) (u : Tally) → k ≡ length (pairEntries rows ld rd) → x ≡ beta rows 1 ld → y ≡ beta rows 0 rd →
-      u ≡ tallyFrom (length rows) rows 1 0 ld (record { left = ld; right = rd; count = 1 + k; l = x; r = y }) → u ≡ firstTally rows ld rd
+module _ (exact : Bool) (rows : List ℕ) (ld rd : ℕ) where
+  pub started : (k x y : ℕ) (u : Tally) → k ≡ pairCount exact rows ld rd → x ≡ beta rows 1 ld → y ≡ beta rows 0 rd →
+      u ≡ tallyFrom exact (length rows) rows 1 0 ld (record { left = ld; right = rd; count = 1 + k; l = x; r = y }) → u ≡ firstTally exact rows ld rd
   unfolding firstTally startTally
   started k x y u ek ex ey e =
-      e ∙ ap (tallyFrom (length rows) rows 1 0 ld) (λ s. record { left = ld; right = rd; count = 1 + ek s; l = ex s; r = ey s })
+      e ∙ ap (tallyFrom exact (length rows) rows 1 0 ld) (λ s. record { left = ld; right = rd; count = 1 + ek s; l = ex s; r = ey s })
 
-  pub closed-tally : (t : Tally) → t .l ≢ 0 → t ≡ wholeTally rows ld rd t
+  pub closed-tally : (t : Tally) → t .l ≢ 0 → t ≡ wholeTally exact rows ld rd t
   unfolding wholeTally
   closed-tally t n = simp (ne-eqb (t .l) 0 n)
 
   pub open-tally : (t : Tally) (x y : ℕ) (u : Tally) → t .l ≡ 0 → x ≡ beta rows 0 ld → y ≡ beta rows 1 rd →
-      u ≡ tallyFrom (length rows) rows 0 1 0 (record { left = t .left; right = t .right; count = t .count; l = x; r = y }) → u ≡ wholeTally rows ld rd t
+      u ≡ tallyFrom exact (length rows) rows 0 1 0 (record { left = t .left; right = t .right; count = t .count; l = x; r = y }) → u ≡ wholeTally exact rows ld rd t
   unfolding wholeTally backTally
   open-tally t x y u z ex ey e =
-      e ∙ ap (tallyFrom (length rows) rows 0 1 0) (λ s. record { left = t .left; right = t .right; count = t .count; l = ex s; r = ey s })
-      ∙ sym (ap (λ (b : Bool). cond b (backTally rows ld rd t) t) (eq-eqb (t .l) 0 z))
+      e ∙ ap (tallyFrom exact (length rows) rows 0 1 0) (λ s. record { left = t .left; right = t .right; count = t .count; l = ex s; r = ey s })
+      ∙ sym (ap (λ (b : Bool). cond b (backTally exact rows ld rd t) t) (eq-eqb (t .l) 0 z))
 
-  -- the entries of the two legs
+-- the entries of the two legs
+module _ (rows : List ℕ) (ld rd : ℕ) where
   pub first-is : (x y : ℕ) → x ≡ beta rows 1 ld → y ≡ beta rows 0 rd → entriesFrom (length rows) rows 1 0 ld x y ≡ firstEntries rows ld rd
   unfolding firstEntries
   first-is x y ex ey = ap (λ (z : ℕ). entriesFrom (length rows) rows 1 0 ld z y) ex ∙ ap (entriesFrom (length rows) rows 1 0 ld (beta rows 1 ld)) ey
 
-  pub back-none : (opened : Bool) (plan : List ℕ) (k : ℕ) → opened ≡ false → plan ≡ writtenAll plan k (backEntries rows ld rd opened)
+  pub back-none : (opened : Bool) (plan : List ℕ) (k : ℕ) → opened ≡ false →
+      (k ≡ k + length (backEntries rows ld rd opened)) × (plan ≡ writtenAll plan k (backEntries rows ld rd opened))
   unfolding backEntries writtenAll
-  back-none opened plan k e = simp e
+  back-none opened plan k e = (rw e (omega arith), simp e)
 
   pub back-some : (opened : Bool) (x y : ℕ) → opened ≡ true → x ≡ beta rows 0 ld → y ≡ beta rows 1 rd →
       entriesFrom (length rows) rows 0 1 0 x y ≡ backEntries rows ld rd opened
@@ -61,6 +69,13 @@ module _ (rows : List ℕ) (ld rd : ℕ) where
   back-some opened x y e ex ey =
       ap (λ (z : ℕ). entriesFrom (length rows) rows 0 1 0 z y) ex ∙ ap (entriesFrom (length rows) rows 0 1 0 (beta rows 0 ld)) ey
       ∙ sym (ap (λ (b : Bool). cond b (entriesFrom (length rows) rows 0 1 0 (beta rows 0 ld) (beta rows 1 rd)) []) e)
+
+  pub back-written : (opened : Bool) (x y k n : ℕ) (plan plan₁ : List ℕ) → opened ≡ true → x ≡ beta rows 0 ld → y ≡ beta rows 1 rd →
+      n ≡ k + length (entriesFrom (length rows) rows 0 1 0 x y) → plan₁ ≡ writtenAll plan k (entriesFrom (length rows) rows 0 1 0 x y) →
+      (n ≡ k + length (backEntries rows ld rd opened)) × (plan₁ ≡ writtenAll plan k (backEntries rows ld rd opened))
+  back-written opened x y k n plan plan₁ e ex ey en p =
+      let s = back-some opened x y e ex ey in
+      (en ∙ ap (λ (es : List Entry). k + length es) s, p ∙ ap (writtenAll plan k) s)
 
 -- the loop that writes
 module _ (f : ℕ) (rows : List ℕ) (i j stop l r : ℕ) (b : Bool) (e : b ≡ legOver l stop) (n : 0 < f) (h : b ≡ false) where
@@ -103,47 +118,82 @@ module _ (rows : List ℕ) (ld rd : ℕ) (opened : Bool) (left right : ℕ) wher
   splits-length =
       omega (arith, length-append (pairEntries rows ld rd) (firstEntries rows ld rd ++ backEntries rows ld rd opened), length-append (firstEntries rows ld rd) (backEntries rows ld rd opened))
 
-  pub splits-written : (plan p₁ p₂ p₃ : List ℕ) (e : Entry) (k : ℕ) → e ≡ splitOf Face left right → p₁ ≡ written plan 0 e →
+  pub splits-written : (plan p₁ p₂ p₃ : List ℕ) (e : Entry) (k n : ℕ) → e ≡ splitOf Face left right → p₁ ≡ written plan 0 e →
       p₂ ≡ writtenAll p₁ 1 (pairEntries rows ld rd ++ firstEntries rows ld rd) → k ≡ 1 + length (pairEntries rows ld rd ++ firstEntries rows ld rd) →
-      p₃ ≡ writtenAll p₂ k (backEntries rows ld rd opened) → p₃ ≡ writtenAll plan 0 (splitsOf rows ld rd opened left right)
+      p₃ ≡ writtenAll p₂ k (backEntries rows ld rd opened) → n ≡ k + length (backEntries rows ld rd opened) →
+      (n ≡ length (splitsOf rows ld rd opened left right)) × (p₃ ≡ writtenAll plan 0 (splitsOf rows ld rd opened left right))
   unfolding splitsOf writtenAll
-  splits-written plan p₁ p₂ p₃ e k ee e₁ e₂ ek e₃ =
+  splits-written plan p₁ p₂ p₃ e k n ee e₁ e₂ ek e₃ en =
       let es : List Entry = pairEntries rows ld rd in
       let fs : List Entry = firstEntries rows ld rd in
-      let gs : List Entry = backEntries rows ld rd opened in
-      e₃ ∙ ap (λ (p : List ℕ). writtenAll p k gs) e₂ ∙ ap (λ (m : ℕ). writtenAll (writtenAll p₁ 1 (es ++ fs)) m gs) ek ∙ written-both p₁ 1 (es ++ fs) gs
-      ∙ ap (writtenAll p₁ 1) (append-assoc es fs gs)
-      ∙ ap (λ (p : List ℕ). writtenAll p 1 (es ++ (fs ++ gs))) (e₁ ∙ ap (written plan 0) ee)
+      let gs : List Entry = backEntries rows ld rd opened in (
+        omega (arith, ek, en, splits-length, length-append es fs),
+        e₃ ∙ ap (λ (p : List ℕ). writtenAll p k gs) e₂ ∙ ap (λ (m : ℕ). writtenAll (writtenAll p₁ 1 (es ++ fs)) m gs) ek ∙ written-both p₁ 1 (es ++ fs) gs
+            ∙ ap (writtenAll p₁ 1) (append-assoc es fs gs)
+            ∙ ap (λ (p : List ℕ). writtenAll p 1 (es ++ (fs ++ gs))) (e₁ ∙ ap (written plan 0) ee),
+      )
+
+-- the entries fit, and are written
+pub written-done : (plan plan₁ : List ℕ) (d n k : ℕ) (es fs : List Entry) → es ≡ fs → n ≡ length es → plan₁ ≡ writtenAll plan 0 es → length fs ≤ k → k ≤ roomOf plan →
+    settles (Done d n) plan₁ ≡ settled plan d fs
+written-done plan plan₁ d n k es fs e en p h g =
+    let m : n ≡ length fs = en ∙ ap (λ (x : List Entry). length x) e in
+    settles-done plan d fs n m plan₁ (omega (arith, m, h, g)) (p ∙ ap (writtenAll plan 0) e ∙ written-put plan fs)
 
 -- from the tallies
-module _ (rows : List ℕ) (ld rd : ℕ) (t u : Tally) (et : t ≡ firstTally rows ld rd) (eu : u ≡ wholeTally rows ld rd t) where
-  whole : u ≡ wholeTally rows ld rd (firstTally rows ld rd)
-  whole = eu ∙ ap (wholeTally rows ld rd) et
+module _ (exact : Bool) (rows : List ℕ) (ld rd : ℕ) (t u : Tally) (et : t ≡ firstTally exact rows ld rd) (eu : u ≡ wholeTally exact rows ld rd t) where
+  first-alike : Alike t (firstTally false rows ld rd)
+  unfolding firstTally startTally
+  first-alike = rw et (agreed exact false rows 1 0 ld (length rows) (startTally exact rows ld rd) (startTally false rows ld rd) (refl, refl, refl, refl))
+
+  whole-alike : Alike u (wholeTally false rows ld rd (firstTally false rows ld rd))
+  unfolding wholeTally backTally
+  whole-alike = rw eu (go (firstTally false rows ld rd) first-alike)
+    where
+      next : Tally → Tally
+      next x = record { left = x .left; right = x .right; count = x .count; l = beta rows 0 ld; r = beta rows 1 rd }
+
+      both : (x : Tally) → Alike t x → (b : Bool) → Alike (cond b (tallyFrom exact (length rows) rows 0 1 0 (next t)) t) (cond b (tallyFrom false (length rows) rows 0 1 0 (next x)) x)
+      both x h true = agreed exact false rows 0 1 0 (length rows) (next t) (next x) (h .0, h .1, refl, refl)
+      both x h false = h
+
+      go : (x : Tally) → Alike t x → Alike (cond (eqb (t .l) 0) (tallyFrom exact (length rows) rows 0 1 0 (next t)) t) (cond (eqb (x .l) 0) (tallyFrom false (length rows) rows 0 1 0 (next x)) x)
+      go x h =
+          let e : eqb (t .l) 0 ≡ eqb (x .l) 0 = ap (λ (y : ℕ). eqb y 0) (h .2) in
+          rw e (both x h (eqb (x .l) 0))
 
   pub entries-are : splitsOf rows ld rd (eqb (t .l) 0) (u .left) (u .right) ≡ threeEntries rows ld rd
   unfolding threeEntries
-  entries-are =
-      ap (λ (x : Tally). splitsOf rows ld rd (eqb (x .l) 0) (u .left) (u .right)) et
-      ∙ ap (λ (x : Tally). splitsOf rows ld rd (eqb (firstTally rows ld rd .l) 0) (x .left) (x .right)) whole
+  entries-are = λ s. splitsOf rows ld rd (eqb (first-alike .2 s) 0) (whole-alike .0 s) (whole-alike .1 s)
 
-  first-count : t .count ≡ 1 + length (pairEntries rows ld rd) + length (firstEntries rows ld rd)
+  first-count : Counts exact (1 + length (pairEntries rows ld rd) + length (firstEntries rows ld rd)) (t .count)
   unfolding firstTally startTally firstEntries
-  first-count = ap (λ (x : Tally). x .count) et ∙ counted rows 1 0 ld (length rows) (startTally rows ld rd)
+  first-count =
+      let q = counted exact rows 1 0 ld (length rows) (startTally exact rows ld rd) in
+      let p = pair-counts exact rows ld rd in
+      let n = ap (λ (x : Tally). x .count) et in
+      (omega (arith, q .0, p .0, n), λ h. omega (arith, q .1 h, p .1 h, n))
 
-  whole-count : u .count ≡ t .count + length (backEntries rows ld rd (eqb (t .l) 0))
+  whole-count : Counts exact (t .count + length (backEntries rows ld rd (eqb (t .l) 0))) (u .count)
   unfolding wholeTally backTally backEntries
-  whole-count =
-      ap (λ (x : Tally). x .count) eu ∙ go (eqb (t .l) 0)
+  whole-count = rw eu (go (eqb (t .l) 0))
     where
       next : Tally
       next = record { left = t .left; right = t .right; count = t .count; l = beta rows 0 ld; r = beta rows 1 rd }
 
-      go : (b : Bool) → cond b (tallyFrom (length rows) rows 0 1 0 next) t .count ≡ t .count + length (cond b (entriesFrom (length rows) rows 0 1 0 (beta rows 0 ld) (beta rows 1 rd)) [])
-      go true = counted rows 0 1 0 (length rows) next
-      go false = omega arith
+      go : (b : Bool) → Counts exact (t .count + length (cond b (entriesFrom (length rows) rows 0 1 0 (beta rows 0 ld) (beta rows 1 rd)) []))
+          (cond b (tallyFrom exact (length rows) rows 0 1 0 next) t .count)
+      go true = counted exact rows 0 1 0 (length rows) next
+      go false = (omega arith, λ h. omega arith)
 
-  pub entries-count : u .count ≡ length (threeEntries rows ld rd)
-  entries-count =
+  pub entries-most : length (threeEntries rows ld rd) ≤ u .count
+  entries-most =
       let p = splits-length rows ld rd (eqb (t .l) 0) (u .left) (u .right) in
-      let n : u .count ≡ length (splitsOf rows ld rd (eqb (t .l) 0) (u .left) (u .right)) = omega (arith, whole-count, first-count, p) in
-      n ∙ ap (λ (x : List Entry). length x) entries-are
+      let n = ap (λ (x : List Entry). length x) entries-are in
+      omega (arith, whole-count .0, first-count .0, p, n)
+
+  pub entries-count : exact ≡ true → u .count ≡ length (threeEntries rows ld rd)
+  entries-count h =
+      let p = splits-length rows ld rd (eqb (t .l) 0) (u .left) (u .right) in
+      let n = ap (λ (x : List Entry). length x) entries-are in
+      omega (arith, whole-count .1 h, first-count .1 h, p, n, entries-most)

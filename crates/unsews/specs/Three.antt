@@ -1,12 +1,15 @@
 -- The 3-unsew of a real dart of a well-formed map.
---   firstTally rows ld rd    the tally of ld, rd and the first leg
---   backTally rows ld rd t   t with the second leg
---   wholeTally rows ld rd t  t, the tally of the first leg, with the second leg where the face is open
---   splitsOf                 the face split and the splits of all pairs, from what the tally has found
---   threeEntries rows ld rd  the entries of the 3-unsew, of the rows after the 3-unlink
---   threeUnsewOn rows ld     the whole
+--   startTally exact rows ld rd     the tally of ld and rd
+--   firstTally exact rows ld rd     the tally of ld, rd and the first leg
+--   backTally exact rows ld rd t    t with the second leg
+--   wholeTally exact rows ld rd t   t, the tally of the first leg, with the second leg where the face is open
+--   firstEntries, backEntries       the splits of the first leg, and of the second
+--   splitsOf                        the face split and the splits of all pairs, from what the tally has found
+--   threeEntries rows ld rd         the entries of the 3-unsew, of the rows after the 3-unlink
+--   threeUnsewOn rows ld            the whole
+-- The least darts and the end of the first leg are the same in a tally that is exact and in one that is not (`agreed`, `proofs/LegLaws.antt`).
 use Prim.Native.Nat.{ℕ, _+_}
-use mathlib.Core.Bool.{Bool, cond}
+use mathlib.Core.Bool.{Bool, false, cond}
 use mathlib.Core.List.{List, [], _∷_, _++_}
 use lib.Dec.{eqb}
 use lib.ListN.{length}
@@ -17,25 +20,25 @@ use Rattle.plan.specs.declared.Entry.{Entry}
 use Rattle.plan.specs.Plan.{splitOf}
 use Rattle.sews.specs.Sewn.{Work, work, dartOf}
 use Rattle.unsews.specs.declared.tally.Tally.{Tally}
-use Rattle.unsews.specs.Pairs.{pairEntries, entriesFrom, tallyFrom}
+use Rattle.unsews.specs.Pairs.{pairEntries, pairCount, entriesFrom, tallyFrom}
 
 -- ld and rd are the first pair; the face split is counted with it
-unfoldable pub startTally : List ℕ → ℕ → ℕ → Tally
-startTally rows ld rd =
-    record { left = ld; right = rd; count = 1 + length (pairEntries rows ld rd); l = beta rows 1 ld; r = beta rows 0 rd }
+unfoldable pub startTally : Bool → List ℕ → ℕ → ℕ → Tally
+startTally exact rows ld rd =
+    record { left = ld; right = rd; count = 1 + pairCount exact rows ld rd; l = beta rows 1 ld; r = beta rows 0 rd }
 
 -- "Then l forward by beta 1, r by beta 0. Until l is ld or null"
-unfoldable pub firstTally : List ℕ → ℕ → ℕ → Tally
-firstTally rows ld rd = tallyFrom (length rows) rows 1 0 ld (startTally rows ld rd)
+unfoldable pub firstTally : Bool → List ℕ → ℕ → ℕ → Tally
+firstTally exact rows ld rd = tallyFrom exact (length rows) rows 1 0 ld (startTally exact rows ld rd)
 
 -- "then from ld by beta 0 and rd by beta 1 until l is null"
-unfoldable pub backTally : List ℕ → ℕ → ℕ → Tally → Tally
-backTally rows ld rd t =
-    tallyFrom (length rows) rows 0 1 0 (record { left = t .left; right = t .right; count = t .count; l = beta rows 0 ld; r = beta rows 1 rd })
+unfoldable pub backTally : Bool → List ℕ → ℕ → ℕ → Tally → Tally
+backTally exact rows ld rd t =
+    tallyFrom exact (length rows) rows 0 1 0 (record { left = t .left; right = t .right; count = t .count; l = beta rows 0 ld; r = beta rows 1 rd })
 
 -- "If l is null: .. this second leg"
-unfoldable pub wholeTally : List ℕ → ℕ → ℕ → Tally → Tally
-wholeTally rows ld rd t = cond (eqb (t .l) 0) (backTally rows ld rd t) t
+unfoldable pub wholeTally : Bool → List ℕ → ℕ → ℕ → Tally → Tally
+wholeTally exact rows ld rd t = cond (eqb (t .l) 0) (backTally exact rows ld rd t) t
 
 unfoldable pub firstEntries : List ℕ → ℕ → ℕ → List Entry
 firstEntries rows ld rd = entriesFrom (length rows) rows 1 0 ld (beta rows 1 ld) (beta rows 0 rd)
@@ -50,8 +53,8 @@ splitsOf rows ld rd opened left right =
 
 unfoldable pub threeEntries : List ℕ → ℕ → ℕ → List Entry
 threeEntries rows ld rd =
-    splitsOf rows ld rd (eqb (firstTally rows ld rd .l) 0)
-    (wholeTally rows ld rd (firstTally rows ld rd) .left) (wholeTally rows ld rd (firstTally rows ld rd) .right)
+    splitsOf rows ld rd (eqb (firstTally false rows ld rd .l) 0)
+    (wholeTally false rows ld rd (firstTally false rows ld rd) .left) (wholeTally false rows ld rd (firstTally false rows ld rd) .right)
 
 unfoldable pub threeUnsewOn : List ℕ → ℕ → Work
 threeUnsewOn rows ld =

@@ -72,7 +72,7 @@ fn write_leg(
     at
 }
 
-// Writes the splits of the second leg, where the face is open.
+// Writes the splits of the second leg, where the face is open, and gives back the number behind them.
 fn write_back(
     rows: &[u32],
     marks: &mut [u8],
@@ -82,17 +82,17 @@ fn write_back(
     at: usize,
     ld: u32,
     rd: u32,
-)
+) -> usize
     requires { ⌜ WellFormed (now rows) × (ld < darts (now rows)) × (rd < darts (now rows)) × Scratch (darts (now rows)) (now marks) (now queue) × (width * (at + length (backEntries (now rows) ld rd opened)) ≤ length (now plan)) ⌝ }
-    ensures { λ _. ⌜ now (plan .exit) ≡ writtenAll (now (plan .entry)) at (backEntries (now (rows .entry)) ld rd opened) ⌝ }
-    ensures { λ _. ⌜ (now (marks .exit) ≡ now (marks .entry)) × (now (queue .exit) ≡ now (queue .entry)) ⌝ }
+    ensures { λ k. ⌜ (k ≡ at + length (backEntries (now (rows .entry)) ld rd opened)) × (now (plan .exit) ≡ writtenAll (now (plan .entry)) at (backEntries (now (rows .entry)) ld rd opened)) ⌝ }
+    ensures { λ k. ⌜ (now (marks .exit) ≡ now (marks .entry)) × (now (queue .exit) ≡ now (queue .entry)) ⌝ }
 {
     if !opened {
-        return;
+        return at;
     }
     let l = beta_at(rows, 0, ld);
     let r = beta_at(rows, 1, rd);
-    let _ = write_leg(rows, marks, queue, plan, 0, 1, 0, at, l, r);
+    write_leg(rows, marks, queue, plan, 0, 1, 0, at, l, r)
 }
 
 // Writes the splits of ld and rd and of the first leg from number 1 of the plan on, and gives back the number behind them.
@@ -114,7 +114,7 @@ fn write_first(
     write_leg(rows, marks, queue, plan, 1, 0, ld, at, l, r)
 }
 
-// Writes the face split and the splits of every pair.
+// Writes the face split and the splits of every pair, and gives back how many there are.
 fn write_splits(
     rows: &[u32],
     marks: &mut [u8],
@@ -125,14 +125,36 @@ fn write_splits(
     right: u32,
     ld: u32,
     rd: u32,
-)
+) -> usize
     requires { ⌜ WellFormed (now rows) × (ld < darts (now rows)) × (rd < darts (now rows)) × Scratch (darts (now rows)) (now marks) (now queue) × (width * length (splitsOf (now rows) ld rd opened left right) ≤ length (now plan)) ⌝ }
-    ensures { λ _. ⌜ now (plan .exit) ≡ writtenAll (now (plan .entry)) 0 (splitsOf (now (rows .entry)) ld rd opened left right) ⌝ }
-    ensures { λ _. ⌜ (now (marks .exit) ≡ now (marks .entry)) × (now (queue .exit) ≡ now (queue .entry)) ⌝ }
+    ensures { λ k. ⌜ (k ≡ length (splitsOf (now (rows .entry)) ld rd opened left right)) × (now (plan .exit) ≡ writtenAll (now (plan .entry)) 0 (splitsOf (now (rows .entry)) ld rd opened left right)) ⌝ }
+    ensures { λ k. ⌜ (now (marks .exit) ≡ now (marks .entry)) × (now (queue .exit) ≡ now (queue .entry)) ⌝ }
 {
     plan::write_entry(plan, 0, plan::split(Class::Face, left, right));
     let at = write_first(rows, marks, queue, plan, ld, rd);
-    write_back(rows, marks, queue, plan, opened, at, ld, rd);
+    write_back(rows, marks, queue, plan, opened, at, ld, rd)
+}
+
+// How many entries there has to be room for: `most`, which is never too few, where there is room for it, and else as many as there are.
+fn wanted(
+    rows: &[u32],
+    marks: &mut [u8],
+    queue: &mut [u32],
+    room: usize,
+    most: usize,
+    ld: u32,
+    rd: u32,
+) -> usize
+    requires { ⌜ WellFormed (now rows) × (ld < darts (now rows)) × (rd < darts (now rows)) × Scratch (darts (now rows)) (now marks) (now queue) × (length (threeEntries (now rows) ld rd) ≤ most) ⌝ }
+    ensures { λ k. ⌜ (length (threeEntries (now (rows .entry)) ld rd) ≤ k) × (room < k → k ≡ length (threeEntries (now (rows .entry)) ld rd)) ⌝ }
+    ensures { λ k. ⌜ (now (marks .exit) ≡ now (marks .entry)) × (now (queue .exit) ≡ now (queue .entry)) ⌝ }
+{
+    if most <= room {
+        return most;
+    }
+    let t1 = first_tally(rows, marks, queue, true, ld, rd);
+    let t = whole_tally(rows, marks, queue, true, ld, rd, t1);
+    t.count
 }
 
 // Writes the plan of a 3-unsew from its start and answers rd with the count; or refuses, and leaves the plan as it was.
@@ -148,12 +170,13 @@ pub(crate) fn settle_splits(
     ensures { λ a. ⌜ settles a (now (plan .exit)) ≡ settled (now (plan .entry)) rd (threeEntries (now (rows .entry)) ld rd) ⌝ }
     ensures { λ a. ⌜ (now (marks .exit) ≡ now (marks .entry)) × (now (queue .exit) ≡ now (queue .entry)) ⌝ }
 {
-    let t1 = first_tally(rows, marks, queue, ld, rd);
-    let t = whole_tally(rows, marks, queue, ld, rd, t1);
-    let k = t.count;
-    if plan::room(plan) < k {
+    let t1 = first_tally(rows, marks, queue, false, ld, rd);
+    let t = whole_tally(rows, marks, queue, false, ld, rd, t1);
+    let room = plan::room(plan);
+    let k = wanted(rows, marks, queue, room, t.count, ld, rd);
+    if room < k {
         return Answer::Refused(Refusal::PlanRoom(k));
     }
-    write_splits(rows, marks, queue, plan, t1.l == 0, t.left, t.right, ld, rd);
-    Answer::Done(rd, k)
+    let n = write_splits(rows, marks, queue, plan, t1.l == 0, t.left, t.right, ld, rd);
+    Answer::Done(rd, n)
 }

@@ -1,4 +1,4 @@
-// What a 3-unsew has to know before it writes: the least darts of the two sides, and how many entries there are.
+// What a 3-unsew has to know before it writes: the least darts of the two sides, and how many entries there are, exactly or at most.
 use crate::pairs::pair_items;
 use betas::betas::beta_at;
 use sews::items::count;
@@ -9,10 +9,10 @@ ghost use Rattle.betas.specs.Betas.{beta, darts};
 ghost use Rattle.betas.specs.Maps.{WellFormed};
 ghost use Rattle.plan.specs.Plan.{lesserOf};
 ghost use Rattle.sews.specs.Ids.{Scratch};
-ghost use Rattle.unsews.specs.Pairs.{pairEntries, legOver, tallied, tallyFrom};
+ghost use Rattle.unsews.specs.Pairs.{pairCount, legOver, tallied, tallyFrom};
 ghost use Rattle.unsews.specs.Three.{startTally, firstTally, backTally, wholeTally};
 
-// The least darts so far on the left and on the right, how many entries, and the pair that comes next.
+// The least darts so far on the left and on the right, how many entries (exactly or at most), and the pair that comes next.
 pub(crate) struct Tally {
     pub left: u32,
     pub right: u32,
@@ -38,25 +38,43 @@ pub(crate) fn leg_over(l: u32, stop: u32) -> bool
     l == stop
 }
 
-// How many entries a pair has.
-fn pair_count(rows: &[u32], marks: &mut [u8], queue: &mut [u32], l: u32, r: u32) -> usize
+// How many entries a pair has; or, where that need not be exact, how many a pair can have, without a look at its orbits.
+fn pair_count(
+    rows: &[u32],
+    marks: &mut [u8],
+    queue: &mut [u32],
+    exact: bool,
+    l: u32,
+    r: u32,
+) -> usize
     requires { ⌜ WellFormed (now rows) × (l < darts (now rows)) × (r < darts (now rows)) × Scratch (darts (now rows)) (now marks) (now queue) ⌝ }
-    ensures { λ k. ⌜ (k ≡ length (pairEntries (now (rows .entry)) l r)) × (k ≤ 3) ⌝ }
+    ensures { λ k. ⌜ (k ≡ pairCount exact (now (rows .entry)) l r) × (k ≤ 3) ⌝ }
     ensures { λ k. ⌜ (now (marks .exit) ≡ now (marks .entry)) × (now (queue .exit) ≡ now (queue .entry)) ⌝ }
 {
+    if !exact {
+        return 3;
+    }
     let items = pair_items(rows, marks, queue, l, r);
     count(items)
 }
 
 // A tally with its next pair, l going on by beta i and r by beta j.
-fn note(rows: &[u32], marks: &mut [u8], queue: &mut [u32], i: u32, j: u32, t: Tally) -> Tally
+fn note(
+    rows: &[u32],
+    marks: &mut [u8],
+    queue: &mut [u32],
+    exact: bool,
+    i: u32,
+    j: u32,
+    t: Tally,
+) -> Tally
     requires { ⌜ WellFormed (now rows) × (i < 3) × (j < 3) × (t .l < darts (now rows)) × (t .r < darts (now rows)) × Scratch (darts (now rows)) (now marks) (now queue) × (t .count ≤ 100000000) ⌝ }
-    ensures { λ u. ⌜ (u ≡ tallied (now (rows .entry)) i j t) × (u .count ≤ t .count + 3) ⌝ }
+    ensures { λ u. ⌜ (u ≡ tallied exact (now (rows .entry)) i j t) × (u .count ≤ t .count + 3) ⌝ }
     ensures { λ u. ⌜ (now (marks .exit) ≡ now (marks .entry)) × (now (queue .exit) ≡ now (queue .entry)) ⌝ }
 {
     let l = t.l;
     let r = t.r;
-    let k = pair_count(rows, marks, queue, l, r);
+    let k = pair_count(rows, marks, queue, exact, l, r);
     let left = lesser_of(t.left, l);
     let right = lesser_of(t.right, r);
     Tally {
@@ -73,13 +91,14 @@ fn tally_leg(
     rows: &[u32],
     marks: &mut [u8],
     queue: &mut [u32],
+    exact: bool,
     i: u32,
     j: u32,
     stop: u32,
     t0: Tally,
 ) -> Tally
     requires { ⌜ WellFormed (now rows) × (i < 3) × (j < 3) × (t0 .l < darts (now rows)) × (t0 .r < darts (now rows)) × Scratch (darts (now rows)) (now marks) (now queue) × (t0 .count ≤ 20000000) ⌝ }
-    ensures { λ u. ⌜ (u ≡ tallyFrom (length (now (rows .entry))) (now (rows .entry)) i j stop t0) × (u .count ≤ t0 .count + 3 * length (now (rows .entry))) ⌝ }
+    ensures { λ u. ⌜ (u ≡ tallyFrom exact (length (now (rows .entry))) (now (rows .entry)) i j stop t0) × (u .count ≤ t0 .count + 3 * length (now (rows .entry))) ⌝ }
     ensures { λ u. ⌜ (now (marks .exit) ≡ now (marks .entry)) × (now (queue .exit) ≡ now (queue .entry)) ⌝ }
 {
     let mut t = t0;
@@ -88,7 +107,7 @@ fn tally_leg(
         if leg_over(t.l, stop) {
             return t;
         }
-        t = note(rows, marks, queue, i, j, t);
+        t = note(rows, marks, queue, exact, i, j, t);
         left -= 1;
     }
     t
@@ -99,14 +118,15 @@ pub(crate) fn first_tally(
     rows: &[u32],
     marks: &mut [u8],
     queue: &mut [u32],
+    exact: bool,
     ld: u32,
     rd: u32,
 ) -> Tally
     requires { ⌜ WellFormed (now rows) × (ld < darts (now rows)) × (rd < darts (now rows)) × Scratch (darts (now rows)) (now marks) (now queue) ⌝ }
-    ensures { λ u. ⌜ (u ≡ firstTally (now (rows .entry)) ld rd) × (u .count ≤ 4 + 3 * length (now (rows .entry))) ⌝ }
+    ensures { λ u. ⌜ (u ≡ firstTally exact (now (rows .entry)) ld rd) × (u .count ≤ 4 + 3 * length (now (rows .entry))) ⌝ }
     ensures { λ u. ⌜ (now (marks .exit) ≡ now (marks .entry)) × (now (queue .exit) ≡ now (queue .entry)) ⌝ }
 {
-    let k = pair_count(rows, marks, queue, ld, rd);
+    let k = pair_count(rows, marks, queue, exact, ld, rd);
     let t = Tally {
         left: ld,
         right: rd,
@@ -114,7 +134,7 @@ pub(crate) fn first_tally(
         l: beta_at(rows, 1, ld),
         r: beta_at(rows, 0, rd),
     };
-    tally_leg(rows, marks, queue, 1, 0, ld, t)
+    tally_leg(rows, marks, queue, exact, 1, 0, ld, t)
 }
 
 // The tally of the first leg with the second, where the face is open.
@@ -122,12 +142,13 @@ pub(crate) fn whole_tally(
     rows: &[u32],
     marks: &mut [u8],
     queue: &mut [u32],
+    exact: bool,
     ld: u32,
     rd: u32,
     t: Tally,
 ) -> Tally
     requires { ⌜ WellFormed (now rows) × (ld < darts (now rows)) × (rd < darts (now rows)) × Scratch (darts (now rows)) (now marks) (now queue) × (t .count ≤ 20000000) ⌝ }
-    ensures { λ u. ⌜ u ≡ wholeTally (now (rows .entry)) ld rd t ⌝ }
+    ensures { λ u. ⌜ u ≡ wholeTally exact (now (rows .entry)) ld rd t ⌝ }
     ensures { λ u. ⌜ (now (marks .exit) ≡ now (marks .entry)) × (now (queue .exit) ≡ now (queue .entry)) ⌝ }
 {
     if t.l != 0 {
@@ -140,5 +161,5 @@ pub(crate) fn whole_tally(
         l: beta_at(rows, 0, ld),
         r: beta_at(rows, 1, rd),
     };
-    tally_leg(rows, marks, queue, 0, 1, 0, back)
+    tally_leg(rows, marks, queue, exact, 0, 1, 0, back)
 }

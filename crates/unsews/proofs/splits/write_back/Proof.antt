@@ -1,10 +1,9 @@
 -- `splits::write_back` meets its contract. Assumes nothing.
 use native.Mathlib.Omega.{arith}
-use mathlib.Core.Path.{refl, ap, _∙_}
+use mathlib.Core.Path.{refl, ap}
 use lib.ListN.{length}
 use borrow.Author.Tests.{not-true, not-false}
-use Rattle.sews.specs.Entries.{writtenAll}
-use Rattle.unsews.proofs.SplitLaws.{back-none, back-some}
+use Rattle.unsews.proofs.SplitLaws.{back-none, back-some, back-written}
 use borrow.Author.Needs.{needs}
 use Rattle.unsews.proofs.splits.write_back.Statement.{statement}
 use Rattle.unsews.proofs.splits.write_back.Tie as tie
@@ -39,7 +38,10 @@ same-length-3 : tie.Need-same-length-3
 same-length-3 c = search needs
 
 returns-2 : tie.Need-returns-2
-returns-2 c = (c .before .before .before .before .before .before .write-leg .ensures .0 .1 ∙ ap (writtenAll (c .before .before .before .before .before .before .before .before .before .before .before .before .before .before .before .before .before .args .plan .now) (c .before .before .before .before .before .before .before .before .before .before .before .before .before .before .before .before .before .args .at)) (back-some _ _ _ _ _ _ (not-false _ (c .before .before .before .before .before .before .before .before .before .before .before .before .if1 .left)) (c .before .before .before .before .before .before .before .before .before .before .before .beta-at .ensures) (c .before .before .before .before .before .before .before .before .before .before .beta-at2 .ensures)), c .before .before .before .before .before .before .write-leg .ensures .1)
+returns-2 c = (
+  back-written _ _ _ _ _ _ _ _ _ _ (not-false _ (c .before .before .before .before .before .before .before .before .before .before .before .before .if1 .left)) (c .before .before .before .before .before .before .before .before .before .before .before .beta-at .ensures) (c .before .before .before .before .before .before .before .before .before .before .beta-at2 .ensures) (c .before .before .before .before .before .before .write-leg .ensures .0 .0) (c .before .before .before .before .before .before .write-leg .ensures .0 .1),
+  c .before .before .before .before .before .before .write-leg .ensures .1,
+)
 
 pub write-back-spec : {M : Type 1} → statement M
 write-back-spec =

@@ -45,7 +45,7 @@ same-length-3 c = c .before .before .before .before .before .before .write-back 
 
 returns : tie.Need-returns
 returns c = (
-  splits-written _ _ _ _ _ _ _ _ _ _ _ _ (c .before .before .before .before .before .before .before .before .before .before .before .before .before .before .before .before .before .before .before .before .before .before .before .split .ensures) (c .before .before .before .before .before .before .before .before .before .before .before .before .before .before .before .before .before .before .before .before .before .before .write-entry .ensures) (c .before .before .before .before .before .before .before .before .before .before .before .before .before .before .before .before .write-first .ensures .0 .1) (c .before .before .before .before .before .before .before .before .before .before .before .before .before .before .before .before .write-first .ensures .0 .0) (c .before .before .before .before .before .before .write-back .ensures .0),
+  splits-written _ _ _ _ _ _ _ _ _ _ _ _ _ (c .before .before .before .before .before .before .before .before .before .before .before .before .before .before .before .before .before .before .before .before .before .before .before .split .ensures) (c .before .before .before .before .before .before .before .before .before .before .before .before .before .before .before .before .before .before .before .before .before .before .write-entry .ensures) (c .before .before .before .before .before .before .before .before .before .before .before .before .before .before .before .before .write-first .ensures .0 .1) (c .before .before .before .before .before .before .before .before .before .before .before .before .before .before .before .before .write-first .ensures .0 .0) (c .before .before .before .before .before .before .write-back .ensures .0 .1) (c .before .before .before .before .before .before .write-back .ensures .0 .0),
   (c .before .before .before .before .before .before .write-back .ensures .1 .0 ∙ c .before .before .before .before .before .before .before .before .before .before .before .before .before .before .before .before .write-first .ensures .1 .0, c .before .before .before .before .before .before .write-back .ensures .1 .1 ∙ c .before .before .before .before .before .before .before .before .before .before .before .before .before .before .before .before .write-first .ensures .1 .1),
 )
 

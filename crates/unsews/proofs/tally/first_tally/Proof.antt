@@ -10,8 +10,8 @@ use Rattle.unsews.proofs.tally.first_tally.Tie as tie
 pair-count-requires : tie.Need-pair-count-requires
 pair-count-requires c κs = search needs
 
-add-t12 : tie.Need-add-t12
-add-t12 c = omega (arith, c .before .before .before .before .pair-count .ensures .0 .1)
+add-t13 : tie.Need-add-t13
+add-t13 c = omega (arith, c .before .before .before .before .pair-count .ensures .0 .1)
 
 beta-at-requires : tie.Need-beta-at-requires
 beta-at-requires c κs = search needs
@@ -38,7 +38,7 @@ same-length-2 c = search needs
 
 returns : tie.Need-returns
 returns c = (
-  (started _ _ _ _ _ _ _ (c .before .before .before .before .before .before .before .before .before .before .before .before .before .pair-count .ensures .0 .0) (c .before .before .before .before .before .before .before .before .beta-at .ensures) (c .before .before .before .before .before .before .before .beta-at2 .ensures) (c .before .before .before .before .tally-leg .ensures .0 .0), omega (arith, c .before .before .before .before .tally-leg .ensures .0 .1, c .before .before .before .before .before .before .before .before .before .before .before .before .before .pair-count .ensures .0 .1)),
+  (started _ _ _ _ _ _ _ _ (c .before .before .before .before .before .before .before .before .before .before .before .before .before .pair-count .ensures .0 .0) (c .before .before .before .before .before .before .before .before .beta-at .ensures) (c .before .before .before .before .before .before .before .beta-at2 .ensures) (c .before .before .before .before .tally-leg .ensures .0 .0), omega (arith, c .before .before .before .before .tally-leg .ensures .0 .1, c .before .before .before .before .before .before .before .before .before .before .before .before .before .pair-count .ensures .0 .1)),
   (c .before .before .before .before .tally-leg .ensures .1 .0 ∙ c .before .before .before .before .before .before .before .before .before .before .before .before .before .pair-count .ensures .1 .0, c .before .before .before .before .tally-leg .ensures .1 .1 ∙ c .before .before .before .before .before .before .before .before .before .before .before .before .before .pair-count .ensures .1 .1),
 )
 
@@ -47,7 +47,7 @@ first-tally-spec =
     tie.close
     (tie.spec
     pair-count-requires
-    add-t12
+    add-t13
     beta-at-requires
     beta-at-requires-2
     tally-leg-requires

@@ -14,8 +14,8 @@ lesser-of-requires c κs = search needs
 lesser-of-requires-2 : tie.Need-lesser-of-requires-2
 lesser-of-requires-2 c κs = search needs
 
-add-t16 : tie.Need-add-t16
-add-t16 c = omega (arith, c .before .before .before .before .before .before .before .before .before .before .before .before .before .pre .6, c .before .before .before .before .before .before .before .pair-count .ensures .0 .1)
+add-t17 : tie.Need-add-t17
+add-t17 c = omega (arith, c .before .before .before .before .before .before .before .before .before .before .before .before .before .pre .6, c .before .before .before .before .before .before .before .pair-count .ensures .0 .1)
 
 beta-at-requires : tie.Need-beta-at-requires
 beta-at-requires c κs = omega (arith, c .before .before .before .before .before .before .before .before .before .before .before .before .before .pre .0 .sized .whole, c .before .before .before .before .before .before .before .before .before .before .before .before .before .pre .1, c .before .before .before .before .before .before .before .before .before .before .before .before .before .pre .3)
@@ -31,7 +31,7 @@ same-length-2 c = search needs
 
 returns : tie.Need-returns
 returns c = (
-  (noted _ _ _ _ _ _ _ _ _ (c .before .before .before .before .lesser-of .ensures) (c .before .before .before .lesser-of2 .ensures) (c .before .before .before .before .before .before .before .before .before .pair-count .ensures .0 .0) (c .before .beta-at .ensures) (c .beta-at2 .ensures), omega (arith, c .before .before .before .before .before .before .before .before .before .pair-count .ensures .0 .1)),
+  (noted _ _ _ _ _ _ _ _ _ _ (c .before .before .before .before .lesser-of .ensures) (c .before .before .before .lesser-of2 .ensures) (c .before .before .before .before .before .before .before .before .before .pair-count .ensures .0 .0) (c .before .beta-at .ensures) (c .beta-at2 .ensures), omega (arith, c .before .before .before .before .before .before .before .before .before .pair-count .ensures .0 .1)),
   c .before .before .before .before .before .before .before .before .before .pair-count .ensures .1,
 )
 
@@ -42,7 +42,7 @@ note-spec =
     pair-count-requires
     lesser-of-requires
     lesser-of-requires-2
-    add-t16
+    add-t17
     beta-at-requires
     beta-at-requires-2
     same-length

@@ -1,8 +1,14 @@
 -- `tally::pair_count` meets its contract. Assumes nothing.
-use Rattle.unsews.proofs.LegLaws.{pair-length}
+use native.Mathlib.Omega.{arith}
+use mathlib.Core.Path.{refl}
+use borrow.Author.Tests.{not-true, not-false}
+use Rattle.unsews.proofs.LegLaws.{pair-exact, pair-loose}
 use borrow.Author.Needs.{needs}
 use Rattle.unsews.proofs.tally.pair_count.Statement.{statement}
 use Rattle.unsews.proofs.tally.pair_count.Tie as tie
+
+returns : tie.Need-returns
+returns c = ((pair-loose _ _ _ _ (not-true _ (c .if1 .taken)), omega arith), (refl, refl))
 
 pair-items-requires : tie.Need-pair-items-requires
 pair-items-requires c κs = search needs
@@ -16,15 +22,16 @@ same-length c = search needs
 same-length-2 : tie.Need-same-length-2
 same-length-2 c = search needs
 
-returns : tie.Need-returns
-returns c = ((pair-length _ _ _ (c .count .ensures .0) (c .before .before .before .before .before .pair-items .ensures .0), c .count .ensures .1), c .before .before .before .before .before .pair-items .ensures .1)
+returns-2 : tie.Need-returns-2
+returns-2 c = ((pair-exact _ _ _ _ _ _ (not-false _ (c .before .before .before .before .before .before .before .before .if1 .left)) (c .count .ensures .0) (c .before .before .before .before .before .pair-items .ensures .0), c .count .ensures .1), c .before .before .before .before .before .pair-items .ensures .1)
 
 pub pair-count-spec : {M : Type 1} → statement M
 pair-count-spec =
     tie.close
     (tie.spec
+    returns
     pair-items-requires
     count-requires
     same-length
     same-length-2
-    returns)
+    returns-2)

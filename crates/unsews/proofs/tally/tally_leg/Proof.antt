@@ -13,12 +13,12 @@ use Rattle.unsews.proofs.tally.tally_leg.Statement.{statement}
 use Rattle.unsews.proofs.tally.tally_leg.Tie as tie
 
 abbrev Inv-loop : tie.InvT-loop
-Inv-loop rows marks₀ queue₀ i j stop t₀ left₀ marks queue t left =
+Inv-loop rows marks₀ queue₀ exact i j stop t₀ left₀ marks queue t left =
     (marks ≡ marks₀) × (queue ≡ queue₀) × (t .l < darts rows) × (t .r < darts rows) × (t .count + 3 * left ≤ t₀ .count + 3 * length rows)
-    × (tallyFrom left rows i j stop t ≡ tallyFrom (length rows) rows i j stop t₀)
+    × (tallyFrom exact left rows i j stop t ≡ tallyFrom exact (length rows) rows i j stop t₀)
 
 abbrev μ-loop : tie.MeasureT-loop
-μ-loop rows marks₀ queue₀ i j stop t₀ left₀ marks queue t left = left
+μ-loop rows marks₀ queue₀ exact i j stop t₀ left₀ marks queue t left = left
 
 loop-holds : tie.Need-loop-holds Inv-loop μ-loop
 loop-holds c = (refl, refl, c .before .before .before .pre .3, c .before .before .before .pre .4, omega arith, refl)
@@ -33,7 +33,7 @@ same-length-2 : tie.Need-same-length-2 Inv-loop μ-loop
 same-length-2 c = ap length (c .before .before .before .loop .inv .1)
 
 returns : tie.Need-returns Inv-loop μ-loop
-returns c = ((tally-over _ _ _ _ _ _ _ (c .before .leg-over .ensures) (c .if1 .taken) ∙ c .before .before .before .loop .inv .5, omega (arith, c .before .before .before .loop .inv .4)), (c .before .before .before .loop .inv .0, c .before .before .before .loop .inv .1))
+returns c = ((tally-over _ _ _ _ _ _ _ _ (c .before .leg-over .ensures) (c .if1 .taken) ∙ c .before .before .before .loop .inv .5, omega (arith, c .before .before .before .loop .inv .4)), (c .before .before .before .loop .inv .0, c .before .before .before .loop .inv .1))
 
 note-requires : tie.Need-note-requires Inv-loop μ-loop
 note-requires c κs = (c .before .before .before .before .before .before .before .before .before .pre .0, c .before .before .before .before .before .before .before .before .before .pre .1, c .before .before .before .before .before .before .before .before .before .pre .2, c .before .before .before .before .before .loop .inv .2, c .before .before .before .before .before .loop .inv .3, scratch-same _ _ _ _ _ (c .before .before .before .before .before .before .before .before .before .pre .5) (c .before .before .before .before .before .loop .inv .0) (c .before .before .before .before .before .loop .inv .1), omega (arith, c .before .before .before .before .before .loop .inv .4, c .before .before .before .before .before .before .before .before .before .pre .6, c .before .before .before .before .before .before .before .before .before .pre .0 .sized .whole, c .before .before .before .before .before .before .before .before .before .pre .0 .sized .few))
@@ -46,13 +46,13 @@ loop-less c = omega arith
 
 loop-again : tie.Need-loop-again Inv-loop μ-loop
 loop-again c =
-    let b = tallied-below _ _ _ _ _ (c .before .before .before .before .before .before .before .before .before .before .before .before .before .before .pre .0) (c .before .before .before .before .note .ensures .0 .0) in (
+    let b = tallied-below _ _ _ _ _ _ (c .before .before .before .before .before .before .before .before .before .before .before .before .before .before .pre .0) (c .before .before .before .before .note .ensures .0 .0) in (
       c .before .before .before .before .note .ensures .1 .0 ∙ c .before .before .before .before .before .before .before .before .before .before .loop .inv .0,
       c .before .before .before .before .note .ensures .1 .1 ∙ c .before .before .before .before .before .before .before .before .before .before .loop .inv .1,
       b .0,
       b .1,
       omega (arith, c .before .before .before .before .before .before .before .before .before .before .loop .inv .4, c .before .before .before .before .note .ensures .0 .1, c .before .before .before .before .before .before .before .before .before .loop-test .taken),
-      tally-next _ _ _ _ _ _ _ (c .before .before .before .before .before .before .before .before .leg-over .ensures) _ (omega (arith, c .before .before .before .before .before .before .before .before .before .loop-test .taken)) (c .before .before .before .before .before .before .before .if1 .left) (c .before .before .before .before .note .ensures .0 .0) ∙ c .before .before .before .before .before .before .before .before .before .before .loop .inv .5,
+      tally-next _ _ _ _ _ _ _ _ (c .before .before .before .before .before .before .before .before .leg-over .ensures) _ (omega (arith, c .before .before .before .before .before .before .before .before .before .loop-test .taken)) (c .before .before .before .before .before .before .before .if1 .left) (c .before .before .before .before .note .ensures .0 .0) ∙ c .before .before .before .before .before .before .before .before .before .before .loop .inv .5,
     )
 
 same-length-3 : tie.Need-same-length-3 Inv-loop μ-loop
@@ -62,7 +62,7 @@ same-length-4 : tie.Need-same-length-4 Inv-loop μ-loop
 same-length-4 c = ap length (c .before .loop .inv .1)
 
 returns-2 : tie.Need-returns-2 Inv-loop μ-loop
-returns-2 c = ((tally-none _ _ _ _ _ _ (omega (arith, c .loop-test .left)) ∙ c .before .loop .inv .5, omega (arith, c .before .loop .inv .4)), (c .before .loop .inv .0, c .before .loop .inv .1))
+returns-2 c = ((tally-none _ _ _ _ _ _ _ (omega (arith, c .loop-test .left)) ∙ c .before .loop .inv .5, omega (arith, c .before .loop .inv .4)), (c .before .loop .inv .0, c .before .loop .inv .1))
 
 pub tally-leg-spec : {M : Type 1} → statement M
 tally-leg-spec =

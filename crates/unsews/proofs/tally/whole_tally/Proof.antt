@@ -7,7 +7,7 @@ use Rattle.unsews.proofs.tally.whole_tally.Statement.{statement}
 use Rattle.unsews.proofs.tally.whole_tally.Tie as tie
 
 returns : tie.Need-returns
-returns c = (closed-tally _ _ _ _ (c .if1 .taken), (refl, refl))
+returns c = (closed-tally _ _ _ _ _ (c .if1 .taken), (refl, refl))
 
 beta-at-requires : tie.Need-beta-at-requires
 beta-at-requires c κs = search needs
@@ -33,7 +33,7 @@ same-length-2 : tie.Need-same-length-2
 same-length-2 c = search needs
 
 returns-2 : tie.Need-returns-2
-returns-2 c = (open-tally _ _ _ (c .before .before .before .before .before .before .before .before .before .before .before .before .before .before .args .t) _ _ _ (c .before .before .before .before .before .before .before .before .before .if1 .left) (c .before .before .before .before .before .before .before .before .beta-at .ensures) (c .before .before .before .before .before .before .before .beta-at2 .ensures) (c .before .before .before .before .tally-leg .ensures .0 .0), c .before .before .before .before .tally-leg .ensures .1)
+returns-2 c = (open-tally _ _ _ _ (c .before .before .before .before .before .before .before .before .before .before .before .before .before .before .args .t) _ _ _ (c .before .before .before .before .before .before .before .before .before .if1 .left) (c .before .before .before .before .before .before .before .before .beta-at .ensures) (c .before .before .before .before .before .before .before .beta-at2 .ensures) (c .before .before .before .before .tally-leg .ensures .0 .0), c .before .before .before .before .tally-leg .ensures .1)
 
 pub whole-tally-spec : {M : Type 1} → statement M
 whole-tally-spec =

@@ -4,35 +4,25 @@ use Rattle.orbits.specs.declared.policy.OrbitPolicy.the-variants.{Edge}
 use Rattle.orbits.specs.Steps.{edge}
 use Rattle.orbits.proofs.StepLaws.{steps-are}
 use Rattle.orbits.proofs.TurnLaws.{visiting-starts, visiting-ends}
-use Rattle.orbits.proofs.VisitLaws.{asked, taken}
+use mathlib.Core.Path.{_∙_}
+use Rattle.orbits.proofs.ScratchLaws.{scratch-same}
+use Rattle.orbits.proofs.VisitLaws.{taken}
 use borrow.Author.Needs.{needs}
 use Rattle.orbits.proofs.visits.visit_edge.Statement.{statement}
 use Rattle.orbits.proofs.visits.visit_edge.Tie as tie
 
 step-requires : tie.Need-step-requires
-step-requires c κs =
-    let v0 = visiting-starts (c .before .before .before .before .before .args .rows .now) edge (c .before .before .before .before .before .args .d) _ _ _ (c .before .before .before .before .before .pre .1) in
-    asked 0 v0 (omega arith) (c .before .before .before .before .before .pre .0) (steps-are Edge) (c .before .before .before .before .before .pre .2)
+step-requires c κs = (c .before .before .before .before .before .pre .0, c .before .before .before .before .before .pre .1, steps-are Edge .each 0 (omega arith), c .before .before .before .before .before .pre .2)
 
 step-requires-2 : tie.Need-step-requires-2
 step-requires-2 c κs =
-    let v0 = visiting-starts (c .before .before .before .before .before .before .before .before .before .before .before .before .args .rows .now) edge (c .before .before .before .before .before .before .before .before .before .before .before .before .args .d) _ _ _ (c .before .before .before .before .before .before .before .before .before .before .before .before .pre .1) in
-    let v1 = taken 0 v0 (omega arith) (c .before .before .before .before .before .before .step .kept .1 .1 .0) (c .before .before .before .before .before .before .step .kept .1 .1 .1 .0) (c .before .before .before .before .before .before .step .ensures) in
-    asked 1 v1 (omega arith) (c .before .before .before .before .before .before .before .before .before .before .before .before .pre .0) (steps-are Edge) (c .before .before .before .before .before .before .before .before .before .before .before .before .pre .2)
+    (scratch-same _ (c .before .before .before .before .before .before .before .before .before .before .before .before .args .marks .now) (c .before .before .before .before .before .before .before .before .before .before .before .before .args .out .now) _ _ (c .before .before .before .before .before .before .before .before .before .before .before .before .pre .0) (c .before .before .before .before .before .before .step .kept .1 .1 .0) (c .before .before .before .before .before .before .step .kept .1 .1 .1 .0), c .before .before .before .before .before .before .step .ensures .queue, steps-are Edge .each 1 (omega arith), c .before .before .before .before .before .before .before .before .before .before .before .before .pre .2)
 
 same-length : tie.Need-same-length
-same-length c =
-    let v0 = visiting-starts (c .before .before .before .before .before .before .before .before .before .before .before .before .before .before .before .before .before .args .rows .now) edge (c .before .before .before .before .before .before .before .before .before .before .before .before .before .before .before .before .before .args .d) _ _ _ (c .before .before .before .before .before .before .before .before .before .before .before .before .before .before .before .before .before .pre .1) in
-    let v1 = taken 0 v0 (omega arith) (c .before .before .before .before .before .before .before .before .before .before .before .step .kept .1 .1 .0) (c .before .before .before .before .before .before .before .before .before .before .before .step .kept .1 .1 .1 .0) (c .before .before .before .before .before .before .before .before .before .before .before .step .ensures) in
-    let v2 = taken 1 v1 (omega arith) (c .before .before .before .before .step2 .kept .1 .1 .0) (c .before .before .before .before .step2 .kept .1 .1 .1 .0) (c .before .before .before .before .step2 .ensures) in
-    v2 .marks-n
+same-length c = c .before .before .before .before .step2 .kept .1 .1 .0 ∙ c .before .before .before .before .before .before .before .before .before .before .before .step .kept .1 .1 .0
 
 same-length-2 : tie.Need-same-length-2
-same-length-2 c =
-    let v0 = visiting-starts (c .before .before .before .before .before .before .before .before .before .before .before .before .before .before .before .before .before .args .rows .now) edge (c .before .before .before .before .before .before .before .before .before .before .before .before .before .before .before .before .before .args .d) _ _ _ (c .before .before .before .before .before .before .before .before .before .before .before .before .before .before .before .before .before .pre .1) in
-    let v1 = taken 0 v0 (omega arith) (c .before .before .before .before .before .before .before .before .before .before .before .step .kept .1 .1 .0) (c .before .before .before .before .before .before .before .before .before .before .before .step .kept .1 .1 .1 .0) (c .before .before .before .before .before .before .before .before .before .before .before .step .ensures) in
-    let v2 = taken 1 v1 (omega arith) (c .before .before .before .before .step2 .kept .1 .1 .0) (c .before .before .before .before .step2 .kept .1 .1 .1 .0) (c .before .before .before .before .step2 .ensures) in
-    v2 .out-n
+same-length-2 c = c .before .before .before .before .step2 .kept .1 .1 .1 .0 ∙ c .before .before .before .before .before .before .before .before .before .before .before .step .kept .1 .1 .1 .0
 
 returns : tie.Need-returns
 returns c =

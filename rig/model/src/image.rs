@@ -136,3 +136,19 @@ pub fn report(input: &[u8]) -> String {
         Err((number, [a, b, c])) => format!("refused {number} {a} {b} {c}\n"),
     }
 }
+
+/// What the program `report_cases` must print for its standard input: cases, each a length in four
+/// little-endian bytes and then as many bytes, or all that are left.
+pub fn case_reports(input: &[u8]) -> String {
+    let mut text = String::new();
+    let mut rest = input;
+    let mut number = 0;
+    while rest.len() >= 4 {
+        let length = word(rest, 0) as usize;
+        let (case, behind) = rest[4..].split_at(length.min(rest.len() - 4));
+        number += 1;
+        let _ = write!(text, "case {number}\n{}", report(case));
+        rest = behind;
+    }
+    text
+}

@@ -21,10 +21,11 @@
 mod cells;
 mod image;
 mod links;
+pub mod noise;
 mod sews;
 
 pub use cells::{Cell, Orbit, identifier, list, orbit};
-pub use image::{REPORT_BYTES, REPORT_DARTS, read_image, report};
+pub use image::{REPORT_BYTES, REPORT_DARTS, case_reports, read_image, report};
 pub use links::{
     one_link, one_unlink, three_link, three_link_core, three_unlink, three_unlink_core, two_link, two_unlink,
 };

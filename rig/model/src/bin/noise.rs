@@ -1,0 +1,5 @@
+//! What the program `report_noise` must print.
+
+fn main() {
+    print!("{}", model::noise::lines());
+}

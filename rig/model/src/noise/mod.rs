@@ -1,0 +1,8 @@
+//! Bytes that are no image, or nearly one: the cases of the program `report_noise`, made once more, and
+//! what it must print.
+
+mod cases;
+mod tally;
+
+pub use cases::{KINDS, NAMES, Noise, case};
+pub use tally::{Tally, lines};

@@ -1,0 +1,29 @@
+//! What the report programs are held to is what the model says.
+
+use std::path::PathBuf;
+
+/// A file of a program of the repository.
+fn stored(name: &str) -> Vec<u8> {
+    let path = PathBuf::from(env!("CARGO_MANIFEST_DIR")).join("../../crates").join(name);
+    std::fs::read(&path).unwrap_or_else(|e| panic!("{}: {e}", path.display()))
+}
+
+#[test]
+fn noise() {
+    assert_eq!(model::noise::lines().into_bytes(), stored("report_noise/stdout"));
+}
+
+#[test]
+fn cases() {
+    assert_eq!(model::case_reports(&stored("report_cases/stdin")).into_bytes(), stored("report_cases/stdout"));
+}
+
+#[test]
+fn too_long() {
+    assert_eq!(model::report(&stored("report_long/stdin")).into_bytes(), stored("report_long/stdout"));
+}
+
+#[test]
+fn one_image() {
+    assert_eq!(model::report(&stored("report/stdin")).into_bytes(), stored("report/stdout"));
+}

@@ -3,6 +3,8 @@
 
 Usage: make.py CASES_FILE LONG_FILE [FOLDER]
 With FOLDER each case is also written there as a file of its own, NNN.img.
+
+What the programs must print comes from the model: `cargo run -p model --bin cases < CASES_FILE`.
 """
 
 import os
@@ -10,10 +12,13 @@ import struct
 import sys
 
 sys.path.insert(0, os.path.join(os.path.dirname(os.path.abspath(__file__)), "..", "..", "examples"))
+import noise  # noqa: E402
 from make_examples import cube_mesh, image, loops, mesh, open_strip, tetrahedron  # noqa: E402
 
 NAN = struct.unpack("<d", struct.pack("<Q", 0x7FF8000000000000))[0]
 INF = float("inf")
+# the bytes that report_cases reads
+ROOM = 131072
 
 
 def word(data, k, x):
@@ -105,6 +110,8 @@ def cases():
         for x in (0, old - 1, old + 1, 2**32 - 1):
             if x != old:
                 yield word(triangle, k, x)
+    # noise, with more and more put right
+    yield from noise.cases(30)
 
 
 def main():
@@ -115,7 +122,7 @@ def main():
             os.makedirs(sys.argv[3], exist_ok=True)
             with open(os.path.join(sys.argv[3], f"{k:03}.img"), "wb") as out:
                 out.write(case)
-    if len(data) > 65536:
+    if len(data) > ROOM:
         raise SystemExit(f"{len(data)} bytes are too many")
     with open(sys.argv[1], "wb") as out:
         out.write(data)

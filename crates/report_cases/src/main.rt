@@ -48,7 +48,7 @@ fn behind(cases: &[u8], at: usize) -> usize
 
 // Writes the report of each case.
 fn print_cases(cases: &[u8])
-    requires { ⌜ length (now cases) ≤ 65536 ⌝ }
+    requires { ⌜ length (now cases) ≤ 131072 ⌝ }
 {
     let mut k = 1;
     let mut at = 0;
@@ -61,9 +61,9 @@ fn print_cases(cases: &[u8])
     }
 }
 
-// Reads the cases, 65,536 bytes of them at most.
+// Reads the cases, 131,072 bytes of them at most.
 fn main() {
-    let mut cases = [0u8; 65536];
+    let mut cases = [0u8; 131072];
     let n = io::read_full(STDIN_FILENO, &mut cases);
     print_cases(&cases[..n]);
 }

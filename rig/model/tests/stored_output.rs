@@ -27,3 +27,18 @@ fn too_long() {
 fn one_image() {
     assert_eq!(model::report(&stored("report/stdin")).into_bytes(), stored("report/stdout"));
 }
+
+/// The cases behind the others in `report_cases` are the first 30 of each kind of `report_noise`.
+#[test]
+fn the_same_noise() {
+    let mut wanted = Vec::new();
+    for kind in 0..model::noise::KINDS {
+        let mut noise = model::noise::Noise::new(kind as u32);
+        for _ in 0..30 {
+            let case = model::noise::case(kind, 6, &mut noise);
+            wanted.extend((case.len() as u32).to_le_bytes());
+            wanted.extend(case);
+        }
+    }
+    assert!(stored("report_cases/stdin").ends_with(&wanted));
+}

@@ -29,6 +29,8 @@ pub enum Call {
     IsFree {
         d: u32,
     },
+    /// The map test: in the model, without a counterpart in the Rust.
+    CheckMap,
     OneLink {
         ld: u32,
         rd: u32,
@@ -91,10 +93,11 @@ pub enum Call {
 }
 
 /// The calls by name, in document 01's order.
-pub const NAMES: [&str; 33] = [
+pub const NAMES: [&str; 34] = [
     "beta",
     "is_i_free",
     "is_free",
+    "check_map",
     "one_link",
     "two_link",
     "three_link",
@@ -139,32 +142,33 @@ impl Call {
             Call::Beta { .. } => 0,
             Call::IsIFree { .. } => 1,
             Call::IsFree { .. } => 2,
-            Call::OneLink { .. } => 3,
-            Call::TwoLink { .. } => 4,
-            Call::ThreeLink { .. } => 5,
-            Call::OneUnlink { .. } => 6,
-            Call::TwoUnlink { .. } => 7,
-            Call::ThreeUnlink { .. } => 8,
-            Call::ThreeLinkCore { .. } => 9,
-            Call::ThreeUnlinkCore { .. } => 10,
-            Call::OneSew { .. } => 11,
-            Call::OneUnsew { .. } => 12,
-            Call::TwoSew { .. } => 13,
-            Call::TwoUnsew { .. } => 14,
-            Call::ThreeUnsew { .. } => 15,
-            Call::Identifier { cell, .. } => 16 + *cell as usize,
+            Call::CheckMap => 3,
+            Call::OneLink { .. } => 4,
+            Call::TwoLink { .. } => 5,
+            Call::ThreeLink { .. } => 6,
+            Call::OneUnlink { .. } => 7,
+            Call::TwoUnlink { .. } => 8,
+            Call::ThreeUnlink { .. } => 9,
+            Call::ThreeLinkCore { .. } => 10,
+            Call::ThreeUnlinkCore { .. } => 11,
+            Call::OneSew { .. } => 12,
+            Call::OneUnsew { .. } => 13,
+            Call::TwoSew { .. } => 14,
+            Call::TwoUnsew { .. } => 15,
+            Call::ThreeUnsew { .. } => 16,
+            Call::Identifier { cell, .. } => 17 + *cell as usize,
             Call::Orbit { orbit, .. } => match orbit {
-                Orbit::Vertex => 20,
-                Orbit::VertexLinear => 21,
-                Orbit::Edge => 22,
-                Orbit::Face => 23,
-                Orbit::FaceLinear => 24,
-                Orbit::Volume => 25,
-                Orbit::VolumeLinear => 26,
-                Orbit::Custom(_) => 27,
+                Orbit::Vertex => 21,
+                Orbit::VertexLinear => 22,
+                Orbit::Edge => 23,
+                Orbit::Face => 24,
+                Orbit::FaceLinear => 25,
+                Orbit::Volume => 26,
+                Orbit::VolumeLinear => 27,
+                Orbit::Custom(_) => 28,
             },
-            Call::List { cell } => 28 + *cell as usize,
-            Call::ReadImage => 32,
+            Call::List { cell } => 29 + *cell as usize,
+            Call::ReadImage => 33,
         }
     }
 
@@ -190,7 +194,7 @@ impl Call {
                 betas.iter().map(|&i| u32::from(i)).chain([d]).collect()
             }
             Call::Orbit { d, .. } => vec![d],
-            Call::List { .. } | Call::ReadImage => Vec::new(),
+            Call::CheckMap | Call::List { .. } | Call::ReadImage => Vec::new(),
         }
     }
 

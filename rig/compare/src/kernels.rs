@@ -31,6 +31,7 @@ impl Kernel for Model {
             Call::Beta { i, d } => model::beta(rows, i, d),
             Call::IsIFree { i, d } => model::is_i_free(rows, i, d),
             Call::IsFree { d } => model::is_free(rows, d),
+            Call::CheckMap => model::check_map(rows),
             Call::OneLink { ld, rd } => model::one_link(rows, ld, rd),
             Call::TwoLink { ld, rd } => model::two_link(rows, ld, rd),
             Call::ThreeLink { ld, rd } => model::three_link(rows, ld, rd),
@@ -125,9 +126,10 @@ impl Kernel for Published {
         "published Rust"
     }
 
-    /// Sizes, loans, map test, darts, betas and images are document 01's own.
+    /// Sizes, loans, map test, darts, betas and images are document 01's own; the map test and the reader
+    /// as calls have no counterpart in it.
     fn has_say(&self, call: &Call, expected: &Answer) -> bool {
-        !matches!(expected.0, 1..=5 | 12) && *call != Call::ReadImage
+        !matches!(expected.0, 1..=5 | 12) && !matches!(call, Call::CheckMap | Call::ReadImage)
     }
 
     fn leaves_scratch(&self) -> bool {
@@ -191,7 +193,7 @@ impl Kernel for Published {
             Call::ThreeUnlink { ld } => oracle.three_unlink(ld),
             Call::ThreeLinkCore { ld, rd } => oracle.three_link_core(ld, rd),
             Call::ThreeUnlinkCore { ld } => oracle.three_unlink_core(ld),
-            Call::ReadImage => unreachable!("the Rust has no reader"),
+            Call::CheckMap | Call::ReadImage => unreachable!("the Rust has neither map test nor reader"),
         };
         self.changed(&mut loans.rows);
         answer
@@ -227,6 +229,7 @@ impl Kernel for Library {
             Call::Beta { i, d } => slices::beta(rows, i, d),
             Call::IsIFree { i, d } => slices::is_i_free(rows, i, d),
             Call::IsFree { d } => slices::is_free(rows, d),
+            Call::CheckMap => slices::check_map(rows),
             Call::OneLink { ld, rd } => slices::one_link(rows, ld, rd),
             Call::TwoLink { ld, rd } => slices::two_link(rows, ld, rd),
             Call::ThreeLink { ld, rd } => slices::three_link(rows, ld, rd),

@@ -9,6 +9,8 @@
 //! - `refusals ROUNDS SEED`: wrong sizes, loans, rows, darts, betas, plan room
 //! - `largest`: the largest map, one dart more, lengths that are no rows, long faces, whole grids
 //! - `images ROUNDS SEED`: stored images, right and wrong
+//! - `bytes ROUNDS SEED`: plain noise of many lengths, and noise in which more and more of an image is put
+//!   right, given to the reader; with a line for each kind, of what came of it
 //! - `answers K STRIDE`: prints the published Rust's own answers over all maps of K real darts, every
 //!   STRIDE-th call, one on a line (`runs::answers` says how)
 //! - `cases FOLDER COUNT SEED`: writes images, and what the report program must print for each
@@ -25,65 +27,100 @@ use compare::{Comparison, Kernel, Library, Published, Random, maps, runs};
 
 fn main() -> ExitCode {
     let arguments: Vec<String> = std::env::args().skip(1).collect();
-    if let Some("answers") = arguments.first().map(String::as_str) {
-        let number =
-            |at: usize, default| arguments.get(at).map_or(default, |word| word.parse().unwrap_or_else(|_| usage(word)));
-        let mut lines = std::io::stdout().lock();
-        // a reader that has seen enough closes the pipe; that is no fault
-        runs::answers(&mut Published::default(), number(1, 2), number(2, 1), |line| {
-            if writeln!(lines, "{line}").is_err() {
-                std::process::exit(0);
-            }
-        });
-        return ExitCode::SUCCESS;
+    match arguments.first().map(String::as_str) {
+        Some("answers") => return answers(&arguments[1..]),
+        Some("cases") => return cases(&arguments[1..]),
+        _ => {}
     }
     for (file, bytes, hash) in oracle::TEXT {
         println!("text {file} {bytes} bytes {hash:016x}");
     }
-    let plan: Vec<(String, Vec<u64>)> = if let Some(run) = arguments.first() {
-        if run == "cases" {
-            return cases(&arguments[1..]);
-        }
-        let numbers = arguments[1..].iter().map(|word| word.parse().unwrap_or_else(|_| usage(word)));
-        vec![(run.clone(), numbers.collect())]
-    } else {
-        let mut plan: Vec<(String, Vec<u64>)> = (0..5).map(|k| ("small".to_string(), vec![k])).collect();
-        plan.extend(["walks", "floats", "refusals", "largest", "images"].map(|run| (run.to_string(), Vec::new())));
-        plan
-    };
     let mut differences = 0;
-    for (run, numbers) in plan {
-        let number = |at: usize, default: u64| numbers.get(at).copied().unwrap_or(default);
+    for (run, numbers) in plan(&arguments) {
         let start = Instant::now();
-        let mut kernels: Vec<Box<dyn Kernel>> = vec![Box::new(Published::default())];
-        // the longest run is not spent on the model against itself
-        if cfg!(feature = "linked") || run != "small" || number(0, 4) < 5 {
-            kernels.push(Box::new(Library));
-        }
-        let mut comparison = Comparison::new(kernels);
-        match run.as_str() {
-            "small" => {
-                let [k, part, parts] = [number(0, 4), number(1, 0), number(2, 1)].map(|x| x as usize);
-                runs::small(&mut comparison, k, part, parts);
-            }
-            "walks" => {
-                runs::walks(&mut comparison, number(0, 1500) as usize, number(1, 400) as usize, number(2, 1));
-            }
-            "floats" => runs::floats(&mut comparison, number(0, 1_000_000) as usize, number(1, 1)),
-            "refusals" => runs::refusals(&mut comparison, number(0, 1_000_000) as usize, number(1, 1)),
-            "largest" => runs::largest(&mut comparison),
-            "images" => runs::images(&mut comparison, number(0, 500_000) as usize, number(1, 1)),
-            other => usage(other),
-        }
+        let (comparison, lines) = perform(&run, &numbers);
         println!("== {run} {numbers:?} in {:.1} s: {}", start.elapsed().as_secs_f64(), comparison.report());
+        lines.iter().for_each(|line| println!("  {line}"));
         differences += comparison.differences();
     }
     if differences == 0 { ExitCode::SUCCESS } else { ExitCode::FAILURE }
 }
 
+/// The runs to make, each with its numbers: the one that is named, or all.
+fn plan(arguments: &[String]) -> Vec<(String, Vec<u64>)> {
+    if let Some(run) = arguments.first() {
+        return vec![(run.clone(), arguments[1..].iter().map(|word| number(word)).collect())];
+    }
+    let mut plan: Vec<(String, Vec<u64>)> = (0..5).map(|k| ("small".to_string(), vec![k])).collect();
+    plan.extend(["walks", "floats", "refusals", "largest", "images", "bytes"].map(|run| (run.to_string(), Vec::new())));
+    plan
+}
+
+/// Makes a run; gives the comparison, and lines to print behind its report.
+fn perform(run: &str, numbers: &[u64]) -> (Comparison, Vec<String>) {
+    let number = |at: usize, default: u64| numbers.get(at).copied().unwrap_or(default);
+    let count = |at: usize, default: u64| number(at, default) as usize;
+    let mut kernels: Vec<Box<dyn Kernel>> = vec![Box::new(Published::default())];
+    // the longest run is not spent on the model against itself
+    if cfg!(feature = "linked") || run != "small" || number(0, 4) < 5 {
+        kernels.push(Box::new(Library));
+    }
+    let mut comparison = Comparison::new(kernels);
+    let mut lines = Vec::new();
+    match run {
+        "small" => runs::small(&mut comparison, count(0, 4), count(1, 0), count(2, 1)),
+        "walks" => runs::walks(&mut comparison, count(0, 1500), count(1, 400), number(2, 1)),
+        "floats" => runs::floats(&mut comparison, count(0, 1_000_000), number(1, 1)),
+        "refusals" => runs::refusals(&mut comparison, count(0, 1_000_000), number(1, 1)),
+        "largest" => runs::largest(&mut comparison),
+        "images" => runs::images(&mut comparison, count(0, 500_000), number(1, 1)),
+        "bytes" => lines = runs::bytes(&mut comparison, count(0, 500_000), number(1, 1)),
+        other => usage(other),
+    }
+    (comparison, lines)
+}
+
+/// A number of the command line.
+fn number(word: &str) -> u64 {
+    word.parse().unwrap_or_else(|_| usage(word))
+}
+
+/// Says which runs there are, and ends with 2.
 fn usage<T>(word: &str) -> T {
-    eprintln!("compare: {word}? runs are small, walks, floats, refusals, largest, images, answers, cases");
+    eprintln!("compare: {word}? runs are small, walks, floats, refusals, largest, images, bytes, answers, cases");
     std::process::exit(2)
+}
+
+/// Prints the published Rust's answers.
+fn answers(arguments: &[String]) -> ExitCode {
+    let number = |at: usize, default| arguments.get(at).map_or(default, |word| number(word) as usize);
+    let mut lines = std::io::stdout().lock();
+    // a reader that has seen enough closes the pipe; that is no fault
+    runs::answers(&mut Published::default(), number(0, 2), number(1, 1), |line| {
+        if writeln!(lines, "{line}").is_err() {
+            std::process::exit(0);
+        }
+    });
+    ExitCode::SUCCESS
+}
+
+/// An image for the report program, right or wrong; sometimes as long as it takes, or longer.
+fn some_image(random: &mut Random, case: u64) -> Vec<u8> {
+    let n = match case % 8 {
+        0 => 1,
+        1 => 1024,
+        2 => 1025,
+        3 => 1 + random.below(1024),
+        _ => 1 + random.below(12),
+    };
+    let rows = if random.percent(50) { maps::wild(random, n) } else { maps::faces(random, n) };
+    let mut image = runs::image_of(random, &rows);
+    let faults = *random.pick(&[0, 0, 1, 2]);
+    runs::spoil_image(random, &mut image, n, faults);
+    if case % 37 == 5 {
+        image.resize(*random.pick(&[46_080, 46_081, 60_000]), 0);
+    }
+    image
 }
 
 /// Images for the report program, each beside the text that it must print: `N.image`, `N.text`.
@@ -91,35 +128,18 @@ fn cases(arguments: &[String]) -> ExitCode {
     let Some(folder) = arguments.first().map(Path::new) else {
         return usage("cases without a folder");
     };
-    let number = |at: usize, default: u64| {
-        arguments.get(at).map_or(default, |word| word.parse().unwrap_or_else(|_| usage(word)))
-    };
+    let number = |at: usize, default: u64| arguments.get(at).map_or(default, |word| number(word));
     let mut random = Random::new(number(2, 1));
-    if let Err(e) = std::fs::create_dir_all(folder) {
+    let mut written = std::fs::create_dir_all(folder);
+    for case in 0..number(1, 200) {
+        let image = some_image(&mut random, case);
+        written = written
+            .and_then(|()| std::fs::write(folder.join(format!("{case}.image")), &image))
+            .and_then(|()| std::fs::write(folder.join(format!("{case}.text")), model::report(&image)));
+    }
+    if let Err(e) = written {
         eprintln!("{}: {e}", folder.display());
         return ExitCode::FAILURE;
-    }
-    for case in 0..number(1, 200) {
-        let n = match case % 8 {
-            0 => 1,
-            1 => 1024,
-            2 => 1025,
-            3 => 1 + random.below(1024),
-            _ => 1 + random.below(12),
-        };
-        let rows = if random.percent(50) { maps::wild(&mut random, n) } else { maps::faces(&mut random, n) };
-        let mut image = runs::image_of(&mut random, &rows);
-        let faults = *random.pick(&[0, 0, 1, 2]);
-        runs::spoil_image(&mut random, &mut image, n, faults);
-        if case % 37 == 5 {
-            image.resize(*random.pick(&[46_080, 46_081, 60_000]), 0);
-        }
-        let written = std::fs::write(folder.join(format!("{case}.image")), &image)
-            .and_then(|()| std::fs::write(folder.join(format!("{case}.text")), model::report(&image)));
-        if let Err(e) = written {
-            eprintln!("{}: {e}", folder.display());
-            return ExitCode::FAILURE;
-        }
     }
     ExitCode::SUCCESS
 }

@@ -34,6 +34,7 @@ fn run(kernel: impl Kernel + 'static) -> Comparison {
     runs::floats(&mut comparison, 20_000, 5);
     runs::refusals(&mut comparison, 20_000, 5);
     runs::images(&mut comparison, 5_000, 5);
+    runs::bytes(&mut comparison, 5_000, 5);
     comparison
 }
 
@@ -256,6 +257,34 @@ fn a_reader_that_leaves_negative_zero() {
         }
         answer
     });
+}
+
+#[test]
+fn a_reader_that_writes_before_it_refuses() {
+    found(|call, _, loans, answer| {
+        if *call == Call::ReadImage && answer == (12, [8, 0, 0]) {
+            loans.flags[0] = 0;
+        }
+        answer
+    });
+}
+
+#[test]
+fn a_map_test_that_names_the_dart_first() {
+    let fault = |call: &Call, _: &Loans, _: &mut Loans, answer: Answer| match (call, answer) {
+        (Call::CheckMap, (3, [beta, dart, _])) => (3, [dart, beta, 0]),
+        _ => answer,
+    };
+    assert_eq!(found(fault).0, "check_map");
+}
+
+#[test]
+fn a_map_test_that_lets_beta_2_fix_a_dart() {
+    let fault = |call: &Call, before: &Loans, _: &mut Loans, answer: Answer| match (call, answer) {
+        (Call::CheckMap, (3, [2, dart, _])) if image(&before.rows, 2, dart as u32) == dart as u32 => (0, [0; 3]),
+        _ => answer,
+    };
+    assert_eq!(found(fault).0, "check_map");
 }
 
 #[test]

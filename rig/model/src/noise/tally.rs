@@ -17,6 +17,8 @@ pub struct Tally {
     /// BadImage by word or block.
     pub bad_image: [u64; 9],
     pub not_a_map: u64,
+    /// The reader's alone: the report lends enough.
+    pub short_loan: u64,
     pub other: u64,
 }
 
@@ -25,6 +27,7 @@ impl Tally {
     pub fn count(&mut self, (number, [first, ..]): Answer) {
         match (number, first) {
             (0, _) => self.accepted += 1,
+            (2, _) => self.short_loan += 1,
             (3, _) => self.not_a_map += 1,
             (12, part @ 0..=8) => self.bad_image[part as usize] += 1,
             _ => self.other += 1,

@@ -1,0 +1,100 @@
+//! The largest maps.
+
+use super::calls::CELLS;
+use crate::check::Comparison;
+use crate::kernel::{Call, Cell, Loans, Orbit};
+use crate::maps;
+use crate::random::Random;
+
+/// The largest map, one dart more, lengths that are no rows, long faces and whole grids.
+pub fn largest(comparison: &mut Comparison) {
+    for length in [4_194_304, 4_194_308, 4_194_305, 4_194_303] {
+        comparison.maps += 1;
+        let mut loans = Loans::around(vec![0; length]);
+        loans.plan.truncate(16);
+        let last = (length / 4 - 1) as u32;
+        for call in [
+            Call::CheckMap,
+            Call::Beta { i: 3, d: last },
+            Call::IsFree { d: last + 1 },
+            Call::TwoLink { ld: 1, rd: last },
+            Call::OneSew { ld: last, rd: 1 },
+            Call::TwoSew { ld: last, rd: 1 },
+            Call::Identifier { cell: Cell::Face, d: last },
+            Call::Orbit { orbit: Orbit::Volume, d: last },
+        ] {
+            comparison.check(&call, &loans);
+        }
+    }
+    rings(comparison);
+    grids(comparison);
+}
+
+/// Two closed faces of half a million darts each: long walks, deep searches.
+fn rings(comparison: &mut Comparison) {
+    let half = 524_287u32;
+    let mut rows = vec![0; 4 * (2 * half as usize + 1)];
+    for first in [1, half + 1] {
+        for k in 0..half {
+            let (l, r) = (first + k, first + (k + 1) % half);
+            rows[4 * l as usize + 1] = r;
+            rows[4 * r as usize] = l;
+        }
+    }
+    comparison.maps += 1;
+    let mut loans = Loans::around(rows);
+    loans.plan.truncate(16);
+    for call in [Call::Identifier { cell: Cell::Face, d: half }, Call::Orbit { orbit: Orbit::Face, d: 3 }] {
+        comparison.check(&call, &loans);
+    }
+    // the last place of all that breaks a rule
+    let last = loans.rows.len() - 1;
+    loans.rows[last] = half;
+    comparison.check(&Call::CheckMap, &loans);
+    loans.rows[last] = 0;
+    let (_, glued) = comparison.check(&Call::ThreeLink { ld: 7, rd: half + 9 }, &loans);
+    loans.rows.clone_from(&glued.rows);
+    for call in [
+        Call::CheckMap,
+        Call::Identifier { cell: Cell::Face, d: 2 * half },
+        Call::Identifier { cell: Cell::Volume, d: 2 * half },
+        Call::Identifier { cell: Cell::Vertex, d: 2 * half },
+        Call::Orbit { orbit: Orbit::Face, d: half },
+        Call::Orbit { orbit: Orbit::Custom(vec![3, 0]), d: half },
+        Call::ThreeLink { ld: 8, rd: half + 9 },
+        Call::ThreeUnlink { ld: 1 },
+        Call::ThreeUnlink { ld: half + 1 },
+    ] {
+        comparison.check(&call, &loans);
+    }
+}
+
+/// Grids of cubes of some thousand darts, whole and with parts unglued, listed class by class.
+fn grids(comparison: &mut Comparison) {
+    let mut random = Random::new(9);
+    for (size, cuts) in [([12, 12, 6], 0), ([12, 12, 6], 300), ([9, 4, 8], 4000)] {
+        comparison.maps += 1;
+        let (mut rows, marks, coordinates) = maps::cubes(size);
+        let n = rows.len() / 4;
+        for _ in 0..cuts {
+            let ld = 1 + random.below(n - 1) as u32;
+            match random.below(4) {
+                0 => model::one_unlink(&mut rows, ld),
+                1 => model::two_unlink(&mut rows, ld),
+                _ => model::three_unlink(&mut rows, ld),
+            };
+        }
+        let mut loans = Loans::around(rows);
+        loans.vertex_marks[..n].copy_from_slice(&marks);
+        loans.coordinates[..3 * n].copy_from_slice(&coordinates);
+        comparison.check(&Call::CheckMap, &loans);
+        for cell in CELLS {
+            loans.flags.fill(0);
+            comparison.check(&Call::List { cell }, &loans);
+            for flag in &mut loans.flags {
+                *flag = u8::from(random.percent(10));
+            }
+            comparison.check(&Call::List { cell }, &loans);
+        }
+    }
+}

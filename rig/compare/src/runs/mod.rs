@@ -1,0 +1,21 @@
+//! The runs: which maps, which calls, which loans.
+
+mod answers;
+mod bytes;
+mod calls;
+mod floats;
+mod images;
+mod largest;
+mod loans;
+mod refusals;
+mod small;
+mod walks;
+
+pub use answers::answers;
+pub use bytes::bytes;
+pub use floats::floats;
+pub use images::{image_of, images, spoil_image};
+pub use largest::largest;
+pub use refusals::refusals;
+pub use small::small;
+pub use walks::walks;

@@ -52,6 +52,7 @@ pub struct Comparison {
 }
 
 impl Comparison {
+    /// A comparison of these kernels, with nothing counted yet.
     pub fn new(kernels: Vec<Box<dyn Kernel>>) -> Self {
         let count = Count { compared: vec![0; kernels.len()], ..Count::default() };
         Self {
@@ -120,14 +121,17 @@ impl Comparison {
         answer
     }
 
+    /// How many calls differed, over all kernels.
     pub fn differences(&self) -> u64 {
         self.counts.iter().map(|count| count.differences).sum()
     }
 
+    /// How many calls were made.
     pub fn calls(&self) -> u64 {
         self.counts.iter().map(|count| count.calls).sum()
     }
 
+    /// The smallest findings.
     pub fn findings(&self) -> impl Iterator<Item = &Finding> {
         self.findings.values()
     }

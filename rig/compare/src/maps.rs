@@ -6,6 +6,7 @@ use crate::random::Random;
 
 /// Every partial injection of 1..=k into itself, as image by dart (index 0 unused).
 fn injections(k: usize) -> Vec<Vec<u32>> {
+    // chooses the images of d and of the darts behind it
     fn go(d: usize, k: usize, taken: u64, image: &mut Vec<u32>, all: &mut Vec<Vec<u32>>) {
         if d > k {
             all.push(image.clone());
@@ -26,6 +27,7 @@ fn injections(k: usize) -> Vec<Vec<u32>> {
 
 /// Every partial pairing of 1..=k, as partner by dart.
 fn pairings(k: usize) -> Vec<Vec<u32>> {
+    // chooses the partners of d and of the darts behind it
     fn go(d: usize, k: usize, partner: &mut Vec<u32>, all: &mut Vec<Vec<u32>>) {
         if d > k {
             all.push(partner.clone());
@@ -86,6 +88,7 @@ pub fn part_of(k: usize, part: usize, parts: usize, mut each: impl FnMut(&[u32])
     }
 }
 
+/// Links two darts by beta `i`.
 fn join(rows: &mut [u32], i: usize, l: u32, r: u32) {
     rows[4 * l as usize + i] = r;
     rows[4 * r as usize + if i == 1 { 0 } else { i }] = l;
@@ -146,51 +149,54 @@ pub fn faces(random: &mut Random, n: usize) -> Vec<u32> {
     rows
 }
 
+/// A corner of the grid, or twice the middle of a face.
+type Point = [usize; 3];
+
+/// The corners of each face of a cube, anticlockwise from outside.
+const FACES: [[Point; 4]; 6] = [
+    [[0, 0, 0], [0, 1, 0], [1, 1, 0], [1, 0, 0]],
+    [[0, 0, 1], [1, 0, 1], [1, 1, 1], [0, 1, 1]],
+    [[0, 0, 0], [1, 0, 0], [1, 0, 1], [0, 0, 1]],
+    [[0, 1, 0], [0, 1, 1], [1, 1, 1], [1, 1, 0]],
+    [[0, 0, 0], [0, 0, 1], [0, 1, 1], [0, 1, 0]],
+    [[1, 0, 0], [1, 1, 0], [1, 1, 1], [1, 0, 1]],
+];
+
+/// Joins a dart by beta `i` to the one that runs the other way along its edge, if that one was met.
+fn glue(rows: &mut [u32], i: usize, met: &mut HashMap<[Point; 3], u32>, [of, from, to]: [Point; 3], dart: u32) {
+    if let Some(&other) = met.get(&[of, to, from]) {
+        join(rows, i, dart, other);
+    }
+    met.insert([of, from, to], dart);
+}
+
 /// A grid of cubes with every 2- and 3-link, and its vertices: rows, vertex marks, coordinates.
 ///
 /// A dart is an edge of a face of a cube, seen from outside; the dart across (beta 2 in the same cube,
 /// beta 3 in the next) runs the other way along the same edge.
 pub fn cubes(size: [usize; 3]) -> (Vec<u32>, Vec<u8>, Vec<f64>) {
-    type Point = [usize; 3];
-    // the corners of each face, anticlockwise from outside
-    const FACES: [[Point; 4]; 6] = [
-        [[0, 0, 0], [0, 1, 0], [1, 1, 0], [1, 0, 0]],
-        [[0, 0, 1], [1, 0, 1], [1, 1, 1], [0, 1, 1]],
-        [[0, 0, 0], [1, 0, 0], [1, 0, 1], [0, 0, 1]],
-        [[0, 1, 0], [0, 1, 1], [1, 1, 1], [1, 1, 0]],
-        [[0, 0, 0], [0, 0, 1], [0, 1, 1], [0, 1, 0]],
-        [[1, 0, 0], [1, 1, 0], [1, 1, 1], [1, 0, 1]],
-    ];
     let n = 1 + 24 * size.iter().product::<usize>();
     let mut rows = vec![0; 4 * n];
     let mut starts = vec![[0.0; 3]; n];
-    let mut in_cube: HashMap<(Point, Point, Point), u32> = HashMap::new();
-    let mut in_face: HashMap<(Point, Point, Point), u32> = HashMap::new();
+    let mut in_cube = HashMap::new();
+    let mut in_face = HashMap::new();
     let mut d = 0;
-    for x in 0..size[0] {
-        for y in 0..size[1] {
-            for z in 0..size[2] {
-                for corners in FACES {
-                    let at = corners.map(|c| [x + c[0], y + c[1], z + c[2]]);
-                    // twice the middle of the face, which names it
-                    let middle = std::array::from_fn(|k| at[0][k] + at[2][k]);
-                    for k in 0..4 {
-                        let dart = d + 1 + k as u32;
-                        let (from, to) = (at[k], at[(k + 1) % 4]);
-                        join(&mut rows, 1, dart, d + 1 + (k as u32 + 1) % 4);
-                        starts[dart as usize] = from.map(|c| c as f64);
-                        if let Some(&other) = in_cube.get(&([x, y, z], to, from)) {
-                            join(&mut rows, 2, dart, other);
-                        }
-                        in_cube.insert(([x, y, z], from, to), dart);
-                        if let Some(&other) = in_face.get(&(middle, to, from)) {
-                            join(&mut rows, 3, dart, other);
-                        }
-                        in_face.insert((middle, from, to), dart);
-                    }
-                    d += 4;
-                }
+    let [_, along_y, along_z] = size;
+    for cube in 0..size.iter().product() {
+        let [x, y, z] = [cube / (along_y * along_z), cube / along_z % along_y, cube % along_z];
+        for corners in FACES {
+            let at = corners.map(|c| [x + c[0], y + c[1], z + c[2]]);
+            // twice the middle of the face, which names it
+            let middle = std::array::from_fn(|k| at[0][k] + at[2][k]);
+            for k in 0..4 {
+                let dart = d + 1 + k as u32;
+                let (from, to) = (at[k], at[(k + 1) % 4]);
+                join(&mut rows, 1, dart, d + 1 + (k as u32 + 1) % 4);
+                starts[dart as usize] = from.map(|c| c as f64);
+                glue(&mut rows, 2, &mut in_cube, [[x, y, z], from, to], dart);
+                glue(&mut rows, 3, &mut in_face, [middle, from, to], dart);
             }
+            d += 4;
         }
     }
     let mut marks = vec![1; n];

@@ -4,10 +4,12 @@
 pub struct Random(u64);
 
 impl Random {
+    /// A generator from this seed on.
     pub fn new(seed: u64) -> Self {
         Self(seed)
     }
 
+    /// The next word.
     pub fn word(&mut self) -> u64 {
         self.0 = self.0.wrapping_add(0x9E37_79B9_7F4A_7C15);
         let mut z = self.0;
@@ -26,10 +28,12 @@ impl Random {
         self.below(100) < times
     }
 
+    /// One of a list.
     pub fn pick<'a, T>(&mut self, from: &'a [T]) -> &'a T {
         &from[self.below(from.len())]
     }
 
+    /// Puts a list into any order.
     pub fn shuffle<T>(&mut self, items: &mut [T]) {
         for at in (1..items.len()).rev() {
             items.swap(at, self.below(at + 1));

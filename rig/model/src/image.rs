@@ -10,6 +10,7 @@ pub const REPORT_BYTES: usize = 46_080;
 /// The most darts of an image that the report program takes.
 pub const REPORT_DARTS: usize = 1_024;
 
+/// The little-endian word at a place.
 fn word(bytes: &[u8], at: usize) -> u32 {
     u32::from_le_bytes([bytes[at], bytes[at + 1], bytes[at + 2], bytes[at + 3]])
 }

@@ -2,6 +2,7 @@
 
 use crate::{Answer, Step, answer, done, image, map, real_darts, refused, size};
 
+/// Sets the image of `d` under beta `i`.
 fn put(rows: &mut [u32], i: usize, d: u32, to: u32) {
     rows[4 * d as usize + i] = to;
 }

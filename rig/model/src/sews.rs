@@ -10,10 +10,12 @@ const VERTEX_SPLIT: u32 = 11;
 const EDGE_SPLIT: u32 = 12;
 const FACE_SPLIT: u32 = 13;
 
+/// The vertex identifier of `d`.
 fn vertex(rows: &[u32], d: u32) -> u32 {
     identifier_of(rows, Cell::Vertex, d)
 }
 
+/// The edge identifier of `d`.
 fn edge(rows: &[u32], d: u32) -> u32 {
     identifier_of(rows, Cell::Edge, d)
 }

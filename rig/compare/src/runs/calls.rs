@@ -5,6 +5,7 @@ use crate::random::Random;
 
 pub(super) const CELLS: [Cell; 4] = [Cell::Vertex, Cell::Edge, Cell::Face, Cell::Volume];
 
+/// Every class of orbits, and some Custom lists.
 pub(super) fn orbits() -> Vec<Orbit> {
     vec![
         Orbit::Vertex,

@@ -26,6 +26,7 @@ pub const NAMES: [&str; KINDS] = [
 pub struct Noise(u32);
 
 impl Noise {
+    /// Noise that starts behind `seed`.
     pub fn new(seed: u32) -> Self {
         Self(seed)
     }

@@ -1,0 +1,88 @@
+//! Document 01's own answers.
+
+use crate::kernel::{Answer, Call, Kernel, Loans, Orbit};
+
+/// Document 01 as written down in the crate `model`.
+pub struct Model;
+
+/// Reads, the map test, links and unlinks.
+fn on_rows(call: &Call, rows: &mut [u32]) -> Option<Answer> {
+    let answer = match *call {
+        Call::Beta { i, d } => model::beta(rows, i, d),
+        Call::IsIFree { i, d } => model::is_i_free(rows, i, d),
+        Call::IsFree { d } => model::is_free(rows, d),
+        Call::CheckMap => model::check_map(rows),
+        Call::OneLink { ld, rd } => model::one_link(rows, ld, rd),
+        Call::TwoLink { ld, rd } => model::two_link(rows, ld, rd),
+        Call::ThreeLink { ld, rd } => model::three_link(rows, ld, rd),
+        Call::OneUnlink { ld } => model::one_unlink(rows, ld),
+        Call::TwoUnlink { ld } => model::two_unlink(rows, ld),
+        Call::ThreeUnlink { ld } => model::three_unlink(rows, ld),
+        Call::ThreeLinkCore { ld, rd } => model::three_link_core(rows, ld, rd),
+        Call::ThreeUnlinkCore { ld } => model::three_unlink_core(rows, ld),
+        _ => return None,
+    };
+    Some(answer)
+}
+
+/// Sews and unsews.
+fn with_plan(call: &Call, loans: &mut Loans) -> Option<Answer> {
+    let Loans { rows, marks, queue, vertex_marks, coordinates, plan, .. } = loans;
+    let answer = match *call {
+        Call::OneSew { ld, rd } => model::one_sew(rows, marks, queue, plan, ld, rd),
+        Call::OneUnsew { ld } => model::one_unsew(rows, marks, queue, plan, ld),
+        Call::TwoSew { ld, rd } => model::two_sew(rows, marks, queue, vertex_marks, coordinates, plan, ld, rd),
+        Call::TwoUnsew { ld } => model::two_unsew(rows, marks, queue, plan, ld),
+        Call::ThreeUnsew { ld } => model::three_unsew(rows, marks, queue, plan, ld),
+        _ => return None,
+    };
+    Some(answer)
+}
+
+/// The model's name of an orbit.
+fn of_model(orbit: &Orbit) -> model::Orbit<'_> {
+    match orbit {
+        Orbit::Vertex => model::Orbit::Vertex,
+        Orbit::VertexLinear => model::Orbit::VertexLinear,
+        Orbit::Edge => model::Orbit::Edge,
+        Orbit::Face => model::Orbit::Face,
+        Orbit::FaceLinear => model::Orbit::FaceLinear,
+        Orbit::Volume => model::Orbit::Volume,
+        Orbit::VolumeLinear => model::Orbit::VolumeLinear,
+        Orbit::Custom(betas) => model::Orbit::Custom(betas),
+    }
+}
+
+/// Identifiers, orbits, lists, and the reader.
+fn on_cells(call: &Call, loans: &mut Loans) -> Option<Answer> {
+    let Loans { rows, marks, queue, output, flags, vertex_marks, coordinates, bytes, .. } = loans;
+    let answer = match *call {
+        Call::Identifier { cell, d } => model::identifier(cell, rows, marks, queue, d),
+        Call::Orbit { ref orbit, d } => model::orbit(of_model(orbit), rows, marks, output, d),
+        Call::List { cell } => model::list(cell, rows, marks, queue, output, flags),
+        Call::ReadImage => model::read_image(bytes, flags, vertex_marks, coordinates, rows),
+        _ => return None,
+    };
+    Some(answer)
+}
+
+impl Kernel for Model {
+    fn name(&self) -> &'static str {
+        "model"
+    }
+
+    fn has_say(&self, _: &Call, _: &Answer) -> bool {
+        true
+    }
+
+    fn leaves_scratch(&self) -> bool {
+        true
+    }
+
+    fn run(&mut self, call: &Call, loans: &mut Loans) -> Answer {
+        on_rows(call, &mut loans.rows)
+            .or_else(|| with_plan(call, loans))
+            .or_else(|| on_cells(call, loans))
+            .expect("a call of one of the groups")
+    }
+}

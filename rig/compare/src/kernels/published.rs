@@ -1,0 +1,153 @@
+//! The published Rust's answers.
+
+use oracle::Oracle;
+
+use crate::kernel::{Answer, Call, Cell, Kernel, Loans, Orbit};
+
+/// The published Rust, with document 01's plan room put on top.
+#[derive(Default)]
+pub struct Published {
+    oracle: Option<Oracle>,
+    /// What the oracle holds, so that a map asked many things is put in once.
+    held: Vec<u32>,
+}
+
+impl Published {
+    /// The oracle with these rows in it.
+    fn with(&mut self, rows: &[u32]) -> &mut Oracle {
+        let n = rows.len() / 4;
+        if self.oracle.as_ref().is_none_or(|oracle| oracle.darts() != n) {
+            self.oracle = Some(Oracle::new(n));
+            self.held.clear();
+        }
+        let oracle = self.oracle.as_mut().expect("just put there");
+        if self.held != rows {
+            oracle.put_rows(rows);
+            self.held.clear();
+            self.held.extend_from_slice(rows);
+        }
+        oracle
+    }
+
+    /// Takes over the rows after a call that may have changed them.
+    fn changed(&mut self, rows: &mut Vec<u32>) {
+        if let Some(oracle) = &self.oracle {
+            oracle.take_rows(rows);
+            self.held.clone_from(rows);
+        }
+    }
+
+    /// A sew's answer: its plan written if it fits; else refusal 11, and nothing changed.
+    fn planned(&mut self, (answer, entries): (Answer, Vec<[u32; 4]>), loans: &mut Loans) -> Answer {
+        if entries.len() > loans.plan.len() / 4 {
+            self.held.clear();
+            return (11, [entries.len() as u64, 0, 0]);
+        }
+        self.changed(&mut loans.rows);
+        for (place, entry) in loans.plan.chunks_exact_mut(4).zip(&entries) {
+            place.copy_from_slice(entry);
+        }
+        answer
+    }
+
+    /// Reads, links and unlinks.
+    fn on_rows(&mut self, call: &Call, rows: &mut Vec<u32>) -> Option<Answer> {
+        let oracle = self.with(rows);
+        let answer = match *call {
+            Call::Beta { i, d } => return Some(oracle.beta(i as u8, d)),
+            Call::IsIFree { i, d } => return Some(oracle.is_i_free(i as u8, d)),
+            Call::IsFree { d } => return Some(oracle.is_free(d)),
+            Call::OneLink { ld, rd } => oracle.one_link(ld, rd),
+            Call::TwoLink { ld, rd } => oracle.two_link(ld, rd),
+            Call::ThreeLink { ld, rd } => oracle.three_link(ld, rd),
+            Call::OneUnlink { ld } => oracle.one_unlink(ld),
+            Call::TwoUnlink { ld } => oracle.two_unlink(ld),
+            Call::ThreeUnlink { ld } => oracle.three_unlink(ld),
+            Call::ThreeLinkCore { ld, rd } => oracle.three_link_core(ld, rd),
+            Call::ThreeUnlinkCore { ld } => oracle.three_unlink_core(ld),
+            _ => return None,
+        };
+        self.changed(rows);
+        Some(answer)
+    }
+
+    /// Sews and unsews.
+    fn with_plan(&mut self, call: &Call, loans: &mut Loans) -> Option<Answer> {
+        let oracle = self.with(&loans.rows);
+        let sewn = match *call {
+            Call::OneSew { ld, rd } => oracle.one_sew(ld, rd),
+            Call::OneUnsew { ld } => oracle.one_unsew(ld),
+            Call::TwoSew { ld, rd } => {
+                oracle.put_vertices(&loans.vertex_marks, &loans.coordinates);
+                oracle.two_sew(ld, rd)
+            }
+            Call::TwoUnsew { ld } => oracle.two_unsew(ld),
+            Call::ThreeUnsew { ld } => oracle.three_unsew(ld),
+            _ => return None,
+        };
+        Some(self.planned(sewn, loans))
+    }
+
+    /// Identifiers, orbits and lists.
+    fn on_cells(&mut self, call: &Call, loans: &mut Loans) -> Option<Answer> {
+        let oracle = self.with(&loans.rows);
+        let (answer, list) = match *call {
+            Call::Identifier { cell, d } => return Some(oracle.identifier(of_oracle(cell), d)),
+            Call::Orbit { ref orbit, d } => oracle.orbit(orbit_of_oracle(orbit), d),
+            Call::List { cell } => {
+                oracle.put_flags(&loans.flags);
+                oracle.list(of_oracle(cell))
+            }
+            _ => return None,
+        };
+        loans.output[..list.len()].copy_from_slice(&list);
+        Some(answer)
+    }
+}
+
+/// The oracle's name of a class of cells.
+fn of_oracle(cell: Cell) -> oracle::Cell {
+    match cell {
+        Cell::Vertex => oracle::Cell::Vertex,
+        Cell::Edge => oracle::Cell::Edge,
+        Cell::Face => oracle::Cell::Face,
+        Cell::Volume => oracle::Cell::Volume,
+    }
+}
+
+/// The oracle's name of an orbit.
+fn orbit_of_oracle(orbit: &Orbit) -> oracle::Orbit<'_> {
+    match orbit {
+        Orbit::Vertex => oracle::Orbit::Vertex,
+        Orbit::VertexLinear => oracle::Orbit::VertexLinear,
+        Orbit::Edge => oracle::Orbit::Edge,
+        Orbit::Face => oracle::Orbit::Face,
+        Orbit::FaceLinear => oracle::Orbit::FaceLinear,
+        Orbit::Volume => oracle::Orbit::Volume,
+        Orbit::VolumeLinear => oracle::Orbit::VolumeLinear,
+        Orbit::Custom(betas) => oracle::Orbit::Custom(betas),
+    }
+}
+
+impl Kernel for Published {
+    fn name(&self) -> &'static str {
+        "published Rust"
+    }
+
+    /// Sizes, loans, map test, darts, betas and images are document 01's own; the map test and the reader
+    /// as calls have no counterpart in it.
+    fn has_say(&self, call: &Call, expected: &Answer) -> bool {
+        !matches!(expected.0, 1..=5 | 12) && !matches!(call, Call::CheckMap | Call::ReadImage)
+    }
+
+    fn leaves_scratch(&self) -> bool {
+        false
+    }
+
+    fn run(&mut self, call: &Call, loans: &mut Loans) -> Answer {
+        self.on_rows(call, &mut loans.rows)
+            .or_else(|| self.with_plan(call, loans))
+            .or_else(|| self.on_cells(call, loans))
+            .expect("the Rust has neither map test nor reader")
+    }
+}

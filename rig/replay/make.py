@@ -1,13 +1,18 @@
 #!/usr/bin/env python3
 """Makes the list of answers that the crate `replay` runs: crates/replay/stdin.
 
-The answers are the published Rust's own, printed by the comparison program of rig/compare:
+The answers are printed by the comparison program of rig/compare:
 
-    for run in "1 1" "2 1" "3 41" "4 3001"; do compare answers $run; done | make.py > crates/replay/stdin
+    (for run in "1 1" "2 1" "3 41" "4 3001" "3 23 1" "3 23 2" "4 2003 1" "4 2003 2"; do compare answers $run; done
+     compare wrong 600 1) | make.py > crates/replay/stdin
 
-That is every call on all maps of one and of two real darts, every 41st call on all maps of three, and every
-3001st on all maps of four. Calls without a C name (in parentheses) are left out. Behind them come document
-01's lines that are not marked P: a 3-unsew with room for three entries, and two 2-sews with coordinates.
+The published Rust's own are every call on all maps of one and of two real darts, every 41st call on all maps of
+three, and every 3001st on all maps of four; then 2-sews with the coordinates of document 01's two lines, every 23rd on
+all maps of three real darts and every 2003rd on all maps of four. Calls without a C name (in parentheses) are left out.
+Behind them come 600 of the model's refusals 1, 3, 4 and 5, which the Rust does not have (2 needs loans of other
+lengths than the program lends), every tenth sew or unsew that wrote a plan once more with one word too little room,
+which is refusal 11, and document 01's lines that are not marked P: a 3-unsew with room for three entries, and two 2-sews
+with coordinates.
 
 A record is a row of bytes, one for each number (all are below 256; another ends this script):
 
@@ -64,6 +69,13 @@ def document():
     yield "two_sew", [1, 3], before, [10, 2, 1, 3], before, [], 2, ROOM
 
 
+def without_room(parts):
+    """Every tenth call that wrote a plan, with one word too little room: refused, and nothing changed."""
+    planned = [part for part in parts if "sew" in part[0] and part[5]]
+    for name, numbers, before, answer, _, written, points in planned[::10]:
+        yield name, numbers, before, [11, answer[2], 0, 0], before, [], points, len(written) - 1
+
+
 def answers(lines):
     """The printed answers: call and numbers | rows | number and values | rows after | written."""
     for line in lines:
@@ -71,13 +83,16 @@ def answers(lines):
             continue
         call, before, answer, after, written = line.rstrip("\n").split("|")
         name, *numbers = call.split()
-        yield (name, *([int(word) for word in part.split()] for part in (" ".join(numbers), before, answer, after, written)))
+        name, _, points = name.partition("@")
+        parts = ([int(word) for word in part.split()] for part in (" ".join(numbers), before, answer, after, written))
+        yield (name, *parts, int(points or 0))
 
 
 def main():
     made = collections.Counter()
     out = bytearray()
-    for parts in [*answers(sys.stdin), *document()]:
+    printed = list(answers(sys.stdin))
+    for parts in [*printed, *without_room(printed), *document()]:
         out += record(*parts)
         made[parts[0], parts[3][0]] += 1
     assert len(out) <= LARGEST

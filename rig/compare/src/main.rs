@@ -11,8 +11,10 @@
 //! - `images ROUNDS SEED`: stored images, right and wrong
 //! - `bytes ROUNDS SEED`: plain noise of many lengths, and noise in which more and more of an image is put
 //!   right, given to the reader; with a line for each kind, of what came of it
-//! - `answers K STRIDE`: prints the published Rust's own answers over all maps of K real darts, every
-//!   STRIDE-th call, one on a line (`runs::answers` says how)
+//! - `answers K STRIDE POINTS`: prints the published Rust's own answers over all maps of K real darts,
+//!   every STRIDE-th call, one on a line (`runs::answers` says how); with POINTS 1 or 2 of 2-sews with
+//!   vertices
+//! - `wrong COUNT SEED`: prints the model's refusals 1, 3, 4 and 5 in the same form
 //! - `cases FOLDER COUNT SEED`: writes images, and what the report program must print for each
 //!
 //! Without a run it does `small 0` to `small 4` and the others with their defaults. It ends with 1 if
@@ -28,7 +30,7 @@ use compare::{Comparison, Kernel, Library, Published, Random, maps, runs};
 fn main() -> ExitCode {
     let arguments: Vec<String> = std::env::args().skip(1).collect();
     match arguments.first().map(String::as_str) {
-        Some("answers") => return answers(&arguments[1..]),
+        Some(run @ ("answers" | "wrong")) => return answers(run, &arguments[1..]),
         Some("cases") => return cases(&arguments[1..]),
         _ => {}
     }
@@ -87,20 +89,27 @@ fn number(word: &str) -> u64 {
 
 /// Says which runs there are, and ends with 2.
 fn usage<T>(word: &str) -> T {
-    eprintln!("compare: {word}? runs are small, walks, floats, refusals, largest, images, bytes, answers, cases");
+    eprintln!(
+        "compare: {word}? runs are small, walks, floats, refusals, largest, images, bytes, answers, wrong, cases"
+    );
     std::process::exit(2)
 }
 
-/// Prints the published Rust's answers.
-fn answers(arguments: &[String]) -> ExitCode {
+/// Prints the published Rust's answers, or the model's to wrong input.
+fn answers(run: &str, arguments: &[String]) -> ExitCode {
     let number = |at: usize, default| arguments.get(at).map_or(default, |word| number(word) as usize);
     let mut lines = std::io::stdout().lock();
     // a reader that has seen enough closes the pipe; that is no fault
-    runs::answers(&mut Published::default(), number(0, 2), number(1, 1), |line| {
+    let print = |line: String| {
         if writeln!(lines, "{line}").is_err() {
             std::process::exit(0);
         }
-    });
+    };
+    if run == "wrong" {
+        runs::wrong(number(0, 600), number(1, 1) as u64, print);
+    } else {
+        runs::answers(&mut Published::default(), number(0, 2), number(1, 1), number(2, 0), print);
+    }
     ExitCode::SUCCESS
 }
 

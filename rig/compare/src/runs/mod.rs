@@ -11,7 +11,7 @@ mod refusals;
 mod small;
 mod walks;
 
-pub use answers::answers;
+pub use answers::{answers, wrong};
 pub use bytes::bytes;
 pub use floats::floats;
 pub use images::{image_of, images, spoil_image};

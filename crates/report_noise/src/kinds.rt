@@ -1,4 +1,7 @@
-// The kinds of cases: noise, of which each kind puts more right than the one before. Kinds 1 to 7 have as many right words of the header.
+// The kinds of cases: noise, of which each kind puts more right than the one before.
+//
+// 0 is plain noise; 1 to 7 have as many right words of the header; 8 has right flags too, and 9 right darts of the vertices; 10 has any images below n for rows,
+// and from 11 on the rows are a map, so that only the coordinates are noise; in 12 some of these are infinite, and in 13 bytes are overwritten anywhere.
 use crate::noise::below;
 use crate::parts;
 ghost use Prim.Native.Nat.{_<_, _≤_};
@@ -6,7 +9,7 @@ ghost use Prim.Native.Nat.{_<_, _≤_};
 // The kinds there are.
 pub const KINDS: u32 = 14;
 
-// The length of a case: its image's, or any where not even the total is to be right by more than chance.
+// The length of a case: that of an image of n darts and v vertices, or any for the kinds that have no right n.
 pub fn extent(kind: usize, n: usize, v: usize, x: u32) -> usize
     requires { ⌜ (n ≤ 6) × (v < n) ⌝ }
     ensures { λ r. ⌜ r ≤ 512 ⌝ }

@@ -1,4 +1,5 @@
 // The parts of an image, each put right over noise, for at most six darts. What would lie behind the end of the bytes is left out.
+// A function that takes a seed gives the number from which the next one goes on.
 use crate::noise::below;
 use crate::noise::byte;
 use crate::noise::next;

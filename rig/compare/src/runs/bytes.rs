@@ -20,12 +20,21 @@ fn read(comparison: &mut Comparison, loans: &Loans, tally: &mut Tally) {
     tally.count(answer);
 }
 
+/// Long inputs: plain noise, and cases of every kind with up to 3,000 darts.
+fn long_inputs(comparison: &mut Comparison, random: &mut Random, noise: &mut Noise, tallies: &mut [Tally]) {
+    let mut loans = reader_loans(3000);
+    loans.bytes = long_noise(random);
+    read(comparison, &loans, &mut tallies[noise::KINDS]);
+    loans.bytes = noise::case(random.below(noise::KINDS), 3000, noise);
+    read(comparison, &loans, &mut tallies[noise::KINDS + 1]);
+}
+
 /// Plain noise of many lengths, and noise in which more and more of an image is put right
 /// (`model::noise`), into loans that fit and that don't. Gives a line for each kind: what came of it.
 pub fn bytes(comparison: &mut Comparison, rounds: usize, seed: u64) -> Vec<String> {
     let mut random = Random::new(seed);
     let mut noise = Noise::new(seed as u32);
-    let mut tallies = vec![Tally::default(); noise::KINDS + 1];
+    let mut tallies = vec![Tally::default(); noise::KINDS + 2];
     for round in 0..rounds {
         comparison.maps += 1;
         let kind = round % noise::KINDS;
@@ -37,10 +46,9 @@ pub fn bytes(comparison: &mut Comparison, rounds: usize, seed: u64) -> Vec<Strin
         }
         read(comparison, &loans, &mut tallies[kind]);
         if round % 256 == 0 {
-            loans.bytes = long_noise(&mut random);
-            read(comparison, &loans, &mut tallies[noise::KINDS]);
+            long_inputs(comparison, &mut random, &mut noise, &mut tallies);
         }
     }
-    let names = noise::NAMES.into_iter().chain(["long noise"]);
+    let names = noise::NAMES.into_iter().chain(["long noise", "large, any kind"]);
     names.zip(tallies).map(|(name, tally)| format!("{name}: {tally}; ShortLoan {}", tally.short_loan)).collect()
 }

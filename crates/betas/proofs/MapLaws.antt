@@ -1,20 +1,21 @@
 -- The laws of the tests of a map: each case of the size test, of a breach (`breaks-..`), of a dart's least breach (`breach-..`), and the turns of
 -- the search for the first one (`first-..`). Assumes nothing.
 use Prim.Native.Nat.{ℕ, zero, suc, _+_, _*_, _-_, _/_, _%_, _<_, _≤_}
+use native.Mathlib.Decide.{ℕ-discrete}
 use native.Mathlib.Omega.{arith}
 use mathlib.Core.Path.{_≡_, refl, sym, ap, _∙_}
-use mathlib.Core.Logic.{_≢_}
+use mathlib.Core.Logic.{_≢_, by-cases}
 use mathlib.Core.List.{List}
-use mathlib.Core.Bool.{Bool, true, false, cond, not, _||_, true≢false}
+use mathlib.Core.Bool.{Bool, true, false, cond, not, _||_, _&&_, true≢false, or-true, and-true, or-false as or-none}
 use lib.ListN.{length, getD}
-use lib.Dec.{ltb, eqb}
+use lib.Dec.{ltb, leb, eqb}
 use borrow.Author.Tests.{eq-eqb, ne-eqb, lt-ltb, le-ltb, le-leb, lt-leb, eqb-true, eqb-false, ltb-false, not-false}
 use Rattle.betas.specs.declared.error.Answer.the-variants.{Refused}
 use Rattle.betas.specs.declared.error.Refusal.the-variants.{BadSize, NotAMap}
 use Rattle.betas.specs.Betas.{beta, darts, opp}
 use Rattle.betas.specs.Answers.{pass}
-use Rattle.betas.specs.Maps.{Sized, badSize, sizeTest, breaks, breachAt, firstBreach, mapTest}
-use Rattle.betas.proofs.BetaLaws.{no-self}
+use Rattle.betas.specs.Maps.{Sized, NullRow, badSize, sizeTest, breaks, breachAt, firstBreach, mapTest}
+use Rattle.betas.proofs.BetaLaws.{opp-lt, no-self}
 
 -- the size
 
@@ -84,6 +85,32 @@ module _ (rows : List ℕ) (i d : ℕ) where
       not (eqb y d) ≡ breaks rows i d
   unfolding breaks
   breaks-back j x y ej ex ey h n z m = simp (ey, ← ej, ← ex, lt-leb _ _ h, ne-eqb _ _ n, ne-eqb _ _ z, no-self i x d m)
+
+  -- where row 0 is null: an image that does not lead back, and one that does
+
+  pub breaks-astray : (j x y : ℕ) → j ≡ opp i → x ≡ beta rows i d → y ≡ beta rows j x → x < darts rows → d ≢ 0 → y ≢ d → not (eqb x 0) ≡ breaks rows i d
+  unfolding breaks
+  breaks-astray j x y ej ex ey h z n = simp (← ej, ← ex, ← ey, lt-leb _ _ h, ne-eqb _ _ z, ne-eqb _ _ n, or-true (leb 2 i && eqb x d), and-true (not (eqb x 0)))
+
+  led-real : (j x y : ℕ) → j ≡ opp i → i < 4 → NullRow rows → y ≡ beta rows j x → d ≢ 0 → y ≡ d → x ≢ 0
+  led-real j x y ej hi o ey z e w =
+      z (sym e ∙ ey ∙ ap (beta rows j) w ∙ o j (rw ej (opp-lt i hi)))
+
+  pub breaks-led : (j x y : ℕ) → j ≡ opp i → i < 4 → NullRow rows → x ≡ beta rows i d → y ≡ beta rows j x → x < darts rows → d ≢ 0 → y ≡ d → (leb 2 i && eqb x d) ≡ breaks rows i d
+  unfolding breaks
+  breaks-led j x y ej hi o ex ey h z e =
+      simp (← ej, ← ex, ← ey, lt-leb _ _ h, ne-eqb _ _ z, eq-eqb _ _ e, ne-eqb _ _ (led-real j x y ej hi o ey z e), or-none (leb 2 i && eqb x d))
+
+module _ (rows : List ℕ) (s : Sized rows) (i : ℕ) where
+  pub breaks-of-null : beta rows i 0 ≢ 0 → breaks rows i 0 ≡ true
+  unfolding breaks
+  breaks-of-null n = simp (ne-eqb _ _ n, or-true (leb (darts rows) (beta rows i 0)))
+
+  pub keeps-null : beta rows i 0 ≡ 0 → breaks rows i 0 ≡ false
+  keeps-null e = breaks-null rows i 0 (omega (arith, s .some, e)) e
+
+  pub null-kept : breaks rows i 0 ≡ false → beta rows i 0 ≡ 0
+  null-kept k = by-cases (ℕ-discrete (beta rows i 0) 0) (λ e. e) (λ n. absurd (true≢false (sym (breaks-of-null n) ∙ k)))
 
 -- a dart's least breach
 

@@ -2,6 +2,7 @@
 --   Sized rows         whole rows of 1 to 1,048,576 darts
 --   sizeTest rows      refuses rows that are not
 --   breaks rows i d    whether the image of d by beta i breaks a rule
+--   NullRow rows       "row 0 is all 0"
 --   breachAt rows d    the least beta whose image of d breaks a rule, or 4
 --   firstBreach f rows d   refuses the first of f darts from d on that has a breach
 --   mapTest rows       refuses the first breach of all
@@ -41,6 +42,9 @@ breaks rows i d =
     || (not (eqb (beta rows i d) 0)
     && (eqb d 0 || (leb 2 i && eqb (beta rows i d) d || not (eqb (beta rows (opp i) (beta rows i d)) d))))
 
+abbrev pub NullRow : List ℕ → Type 0
+NullRow rows = (i : ℕ) → i < 4 → beta rows i 0 ≡ 0
+
 -- "least dart, then least beta, whose image breaks a rule"
 unfoldable pub breachAt : List ℕ → ℕ → ℕ
 breachAt rows d = cond (breaks rows 0 d) 0 (cond (breaks rows 1 d) 1 (cond (breaks rows 2 d) 2 (cond (breaks rows 3 d) 3 4)))
@@ -61,6 +65,6 @@ checkMap rows = andThen (sizeTest rows) (mapTest rows)
 pub record WellFormed (rows : List ℕ) : Type 0 where
   pub sized : Sized rows
   pub below : (i d : ℕ) → beta rows i d < darts rows
-  pub null : (i : ℕ) → i < 4 → beta rows i 0 ≡ 0
+  pub null : NullRow rows
   pub back : (i d : ℕ) → i < 4 → beta rows i d ≢ 0 → beta rows (opp i) (beta rows i d) ≡ d
   pub moved : (i d : ℕ) → 2 ≤ i → i < 4 → beta rows i d ≢ 0 → beta rows i d ≢ d

@@ -8,7 +8,7 @@ ghost use mathlib.Core.Path.{_≡_};
 ghost use Prim.Native.Nat.{ℕ, _+_, _*_, _/_, _≤_, _<_};
 ghost use lib.ListN.{length, getD};
 ghost use Rattle.betas.specs.Betas.{beta, darts};
-ghost use Rattle.betas.specs.Maps.{Sized, sizeTest, breaks, breachAt, mapTest, checkMap};
+ghost use Rattle.betas.specs.Maps.{Sized, NullRow, sizeTest, breaks, breachAt, mapTest, checkMap};
 
 // Refuses rows that are no whole rows of 1 to 1,048,576 darts.
 pub fn size_test(rows: &[u32]) -> Answer
@@ -27,9 +27,29 @@ pub fn size_test(rows: &[u32]) -> Answer
     Answer::Done(0, 0)
 }
 
-// Whether the image of d by beta i breaks a rule.
+// The least beta whose image of the null dart is not null, or 4.
+fn null_breach(rows: &[u32]) -> u32
+    requires { ⌜ Sized (now rows) ⌝ }
+    ensures { λ r. ⌜ r ≡ breachAt (now (rows .entry)) 0 ⌝ }
+{
+    if beta_at(rows, 0, 0) != 0 {
+        return 0;
+    }
+    if beta_at(rows, 1, 0) != 0 {
+        return 1;
+    }
+    if beta_at(rows, 2, 0) != 0 {
+        return 2;
+    }
+    if beta_at(rows, 3, 0) != 0 {
+        return 3;
+    }
+    4
+}
+
+// Whether the image of a real dart d by beta i breaks a rule. The null dart leads back to no real one, so that an image which leads back is not null.
 fn breaks_at(rows: &[u32], i: u32, d: u32) -> bool
-    requires { ⌜ (length (now rows) ≡ 4 * darts (now rows)) × (i < 4) × (d < darts (now rows)) ⌝ }
+    requires { ⌜ (length (now rows) ≡ 4 * darts (now rows)) × NullRow (now rows) × (i < 4) × (0 < d) × (d < darts (now rows)) ⌝ }
     ensures { λ r. ⌜ r ≡ breaks (now (rows .entry)) i d ⌝ }
 {
     let n = rows.len() / 4;
@@ -37,23 +57,18 @@ fn breaks_at(rows: &[u32], i: u32, d: u32) -> bool
     if n <= x as usize {
         return true;
     }
-    if x == 0 {
-        return false;
-    }
-    if d == 0 {
-        return true;
+    if beta_at(rows, opp_of(i), x) != d {
+        return x != 0;
     }
     if 2 <= i {
-        if x == d {
-            return true;
-        }
+        return x == d;
     }
-    beta_at(rows, opp_of(i), x) != d
+    false
 }
 
-// The least beta whose image of d breaks a rule, or 4.
+// The least beta whose image of a real dart d breaks a rule, or 4.
 fn breach_at(rows: &[u32], d: u32) -> u32
-    requires { ⌜ (length (now rows) ≡ 4 * darts (now rows)) × (d < darts (now rows)) ⌝ }
+    requires { ⌜ (length (now rows) ≡ 4 * darts (now rows)) × NullRow (now rows) × (0 < d) × (d < darts (now rows)) ⌝ }
     ensures { λ r. ⌜ r ≡ breachAt (now (rows .entry)) d ⌝ }
 {
     if breaks_at(rows, 0, d) {
@@ -76,8 +91,12 @@ pub fn map_test(rows: &[u32]) -> Answer
     requires { ⌜ Sized (now rows) ⌝ }
     ensures { λ r. ⌜ r ≡ mapTest (now (rows .entry)) ⌝ }
 {
+    let b = null_breach(rows);
+    if b < 4 {
+        return Answer::Refused(Refusal::NotAMap(b, 0));
+    }
     let n = (rows.len() / 4) as u32;
-    let mut d: u32 = 0;
+    let mut d: u32 = 1;
     while d < n {
         let i = breach_at(rows, d);
         if i < 4 {

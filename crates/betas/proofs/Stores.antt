@@ -4,6 +4,7 @@
 --   image-l, image-r, image-other   which images stand there: exactly two have changed
 --   pair-kept              they are well formed if the rows were
 --   pair-back              stored the other way round, they are the rows again
+--   below-set, set-back    a store of a dart, and of what stood there
 -- Assumes nothing.
 use Prim.Native.Nat.{ℕ, zero, suc, _+_, _*_, _/_, _%_, _<_, _≤_}
 use native.Mathlib.Omega.{arith}
@@ -33,7 +34,7 @@ abbrev pub paired : Bool → List ℕ → ℕ → ℕ → ℕ → List ℕ
 paired un rows i l r = set (set rows (cell i l) (cond un 0 r)) (cell (opp i) r) (cond un 0 l)
 
 -- a store of a dart keeps every image a dart
-below-set : (n : ℕ) (rows : List ℕ) (a v : ℕ) → ((k : ℕ) → getD rows k 0 < n) → v < n → (k : ℕ) → getD (set rows a v) k 0 < n
+pub below-set : (n : ℕ) (rows : List ℕ) (a v : ℕ) → ((k : ℕ) → getD rows k 0 < n) → v < n → (k : ℕ) → getD (set rows a v) k 0 < n
 below-set n rows a v s h k =
     by-cases (ℕ-discrete k a)
     (λ (e : k ≡ a). by-cases (decLt a (length rows))
@@ -42,7 +43,7 @@ below-set n rows a v s h k =
     (λ (e : k ≢ a). rw (getD-set-other rows a k v 0 e) (s k))
 
 -- a store of what stood there
-set-back : (xs : List ℕ) (a v z : ℕ) → getD xs a 0 ≡ z → set (set xs a v) a z ≡ xs
+pub set-back : (xs : List ℕ) (a v z : ℕ) → getD xs a 0 ≡ z → set (set xs a v) a z ≡ xs
 set-back xs a v z e = set-set xs a v z ∙ ap (λ (y : ℕ). set xs a y) (sym e) ∙ set-getD xs a 0
 
 -- what a number that is stored, or stood there, can be

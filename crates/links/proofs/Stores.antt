@@ -2,29 +2,25 @@
 --   inside-set        a store of a dart keeps rows inside
 --   beta-set          a store of a beta 3 image leaves the images by beta 0, 1 and 2
 --   zeros, zeros-..   how many places are null, and how a store changes that: why a walk ends
---   clear-comm, set-back, set-back-two   stores of 0, and of what stood there before
+--   clear-comm, set-back-two   stores of 0, and of what stood there before
 -- Assumes nothing.
 use Prim.Native.Nat.{ℕ, zero, suc, _<_, _≤_}
 use native.Mathlib.Omega.{arith}
-use native.Mathlib.Decide.{decLt, ℕ-discrete}
+use native.Mathlib.Decide.{ℕ-discrete}
 use mathlib.Core.Path.{_≡_, refl, sym, ap, _∙_}
 use mathlib.Core.Logic.{_≢_, by-cases}
 use mathlib.Core.List.{List, [], _∷_}
 use lib.ListN.{length, getD, set, length-set}
-use lib.Seq.{getD-set-same, getD-set-other, set-out, set-set, set-comm, set-getD}
+use lib.Seq.{getD-set-other, set-comm}
 use Rattle.betas.specs.Betas.{cell, beta}
+use Rattle.betas.proofs.Stores.{below-set, set-back}
 use Rattle.links.specs.Undo.{Inside}
 
 pub inside-set : (n : ℕ) (rows : List ℕ) (a v : ℕ) → Inside n rows → v < n → Inside n (set rows a v)
 inside-set n rows a v s h =
     record {
       whole = length-set rows a v ∙ s .whole;
-      below =
-          λ k. by-cases (ℕ-discrete k a)
-          (λ (e : k ≡ a). by-cases (decLt a (length rows))
-          (λ (l : a < length rows). rw (e, getD-set-same rows a v 0 l) h)
-          (λ (l : a < length rows → ⊥). rw (set-out rows a v (omega arith)) (s .below k)))
-          (λ (e : k ≢ a). rw (getD-set-other rows a k v 0 e) (s .below k));
+      below = below-set n rows a v (s .below) h;
     }
 
 -- an image by beta 0, 1 or 2 is no image by beta 3
@@ -68,10 +64,6 @@ zeros-fill (suc x ∷ xs) (suc k) v l z n = zeros-fill xs k v (omega arith) z n
 pub clear-comm : (xs : List ℕ) (a b : ℕ) → set (set xs a 0) b 0 ≡ set (set xs b 0) a 0
 clear-comm xs a b =
     by-cases (ℕ-discrete a b) (λ (e : a ≡ b). rw e) (λ (e : a ≢ b). set-comm xs a b 0 0 e)
-
--- a store of what stood there
-pub set-back : (xs : List ℕ) (a v z : ℕ) → getD xs a 0 ≡ z → set (set xs a v) a z ≡ xs
-set-back xs a v z e = set-set xs a v z ∙ ap (λ (y : ℕ). set xs a y) (sym e) ∙ set-getD xs a 0
 
 -- a store of 0
 pub zeros-clear-le : (xs : List ℕ) (k : ℕ) → zeros xs ≤ zeros (set xs k 0)

@@ -26,17 +26,9 @@ use Rattle.sews.specs.Entries.{entriesIf, larger}
 use Rattle.sews.specs.Sewn.{leaves, dartOf, settles, settled, sewn}
 use Rattle.sews.specs.One.{oneFar, oneEntries, oneLinks, oneUnlinks, oneSewOn, oneUnsewOn, takenBack, relinked}
 use Rattle.sews.specs.Two.{sideOf, badSides, linkedSides, twoEntries, twoSewOn, twoUnsewOn}
+use Rattle.sews.proofs.OneLaws.{rows-of, answer-of, done-of}
 use Rattle.sews.proofs.OneBack.{links-kept, links-dart, taken-back, unlinks-kept, unlinks-dart, put-back}
 use Rattle.sews.proofs.SewnLaws.{ends-refused, ends-tight, ends-done}
-
-rows-of : (a : Answer) (rows : List ℕ) (o : Out) → out a rows ≡ o → rows ≡ o .rows
-rows-of a rows o e = ap (λ (x : Out). x .rows) e
-
-answer-of : (a : Answer) (rows : List ℕ) (o : Out) → out a rows ≡ o → a ≡ o .answer
-answer-of a rows o e = ap (λ (x : Out). x .answer) e
-
-done-of : (a : Answer) (rows : List ℕ) (o : Out) (b : Bool) → out a rows ≡ o → isDone a ≡ b → isDone (o .answer) ≡ b
-done-of a rows o b e t = ap isDone (sym (answer-of a rows o e)) ∙ t
 
 -- the vertices of a 1-sew, from what the code has read
 pub one-items-are : (kind : Kind) (rows : List ℕ) (ld rd b₃ b₂ far vl vr : ℕ) (es : List Entry) → b₃ ≡ beta rows 3 ld → b₂ ≡ beta rows 2 ld → far ≡ larger b₃ b₂ →

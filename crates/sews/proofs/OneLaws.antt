@@ -1,4 +1,5 @@
 -- The links of a 1-sew and the unlinks of a 1-unsew: each way out as the code has it, that both stay a map, and that the code undoes them.
+--   rows-of, answer-of, done-of   what an outcome says of its parts
 --   second-..        the second link, or ld unlinked again
 --   links-..         the ways out of `oneLinks`
 --   unlinks-..       the ways out of `oneUnlinks`
@@ -25,13 +26,13 @@ use Rattle.betas.proofs.Always.{link-formed, link-length, link-other, unlink-fo
 use Rattle.sews.specs.Sewn.{dartOf}
 use Rattle.sews.specs.One.{bothThree, orBack, afterLink, oneLinks, secondCut, secondPut, agrees, afterUnlink, oneUnlinks, takenBack, relinked}
 
-rows-of : (a : Answer) (rows : List ℕ) (o : Out) → out a rows ≡ o → rows ≡ o .rows
+pub rows-of : (a : Answer) (rows : List ℕ) (o : Out) → out a rows ≡ o → rows ≡ o .rows
 rows-of a rows o e = ap (λ (x : Out). x .rows) e
 
-answer-of : (a : Answer) (rows : List ℕ) (o : Out) → out a rows ≡ o → a ≡ o .answer
+pub answer-of : (a : Answer) (rows : List ℕ) (o : Out) → out a rows ≡ o → a ≡ o .answer
 answer-of a rows o e = ap (λ (x : Out). x .answer) e
 
-done-of : (a : Answer) (rows : List ℕ) (o : Out) (b : Bool) → out a rows ≡ o → isDone a ≡ b → isDone (o .answer) ≡ b
+pub done-of : (a : Answer) (rows : List ℕ) (o : Out) (b : Bool) → out a rows ≡ o → isDone a ≡ b → isDone (o .answer) ≡ b
 done-of a rows o b e t = ap isDone (sym (answer-of a rows o e)) ∙ t
 
 -- a core that refused has left the rows

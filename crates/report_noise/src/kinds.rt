@@ -10,7 +10,7 @@ ghost use Prim.Native.Nat.{_<_, _≤_};
 pub const KINDS: u32 = 14;
 
 // The length of a case: that of an image of n darts and v vertices, or any for the kinds that have no right n.
-pub fn extent(kind: usize, n: usize, v: usize, x: u32) -> usize
+pub(crate) fn extent(kind: usize, n: usize, v: usize, x: u32) -> usize
     requires { ⌜ (n ≤ 6) × (v < n) ⌝ }
     ensures { λ r. ⌜ r ≤ 512 ⌝ }
 {
@@ -21,7 +21,7 @@ pub fn extent(kind: usize, n: usize, v: usize, x: u32) -> usize
 }
 
 // Makes a case over all of the bytes, and gives the number from which the next one goes on.
-pub fn make(bytes: &mut [u8], kind: usize, n: usize, v: usize, seed: u32) -> u32
+pub(crate) fn make(bytes: &mut [u8], kind: usize, n: usize, v: usize, seed: u32) -> u32
     requires { ⌜ (n ≤ 6) × (v < n) ⌝ }
 {
     let filled = parts::fill(bytes, seed);

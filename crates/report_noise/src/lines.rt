@@ -43,7 +43,7 @@ fn put_bad_images(counts: &[u64; 12]) {
 }
 
 // Writes the line of a kind.
-pub fn put_line(kind: usize, counts: &[u64; 12], sum: u32) {
+pub(crate) fn put_line(kind: usize, counts: &[u64; 12], sum: u32) {
     put(b"kind ");
     put_number(kind as u64);
     put(b" (");

@@ -10,12 +10,12 @@ fn long(x: u32) -> u64
 }
 
 // The number that follows.
-pub fn next(x: u32) -> u32 {
+pub(crate) fn next(x: u32) -> u32 {
     ((1664525 * long(x) + 1013904223) % 4294967296) as u32
 }
 
 // A number below `end`, from the upper half of `x`.
-pub fn below(x: u32, end: usize) -> usize
+pub(crate) fn below(x: u32, end: usize) -> usize
     requires { ⌜ 1 ≤ end ⌝ }
     ensures { λ r. ⌜ r < end ⌝ }
 {
@@ -23,6 +23,6 @@ pub fn below(x: u32, end: usize) -> usize
 }
 
 // A byte, from the uppermost bits of `x`.
-pub fn byte(x: u32) -> u8 {
+pub(crate) fn byte(x: u32) -> u8 {
     (x / 16777216) as u8
 }

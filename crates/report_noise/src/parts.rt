@@ -23,7 +23,7 @@ fn put_word(bytes: &mut [u8], at: usize, x: usize)
 }
 
 // Fills all bytes with noise.
-pub fn fill(bytes: &mut [u8], seed: u32) -> u32 {
+pub(crate) fn fill(bytes: &mut [u8], seed: u32) -> u32 {
     let mut x = seed;
     let mut i = 0;
     while i < bytes.len() {
@@ -44,7 +44,7 @@ fn put_word_if(bytes: &mut [u8], wanted: bool, at: usize, x: usize)
 }
 
 // Puts the first `count` words of the header right, all seven at most.
-pub fn put_header(bytes: &mut [u8], n: usize, v: usize, count: usize)
+pub(crate) fn put_header(bytes: &mut [u8], n: usize, v: usize, count: usize)
     requires { ⌜ n ≤ 6 ⌝ }
 {
     let total = bytes.len();
@@ -58,7 +58,7 @@ pub fn put_header(bytes: &mut [u8], n: usize, v: usize, count: usize)
 }
 
 // Puts the flags right: 0 for dart 0, 0 or 1 for the others.
-pub fn put_flags(bytes: &mut [u8], n: usize, seed: u32) -> u32
+pub(crate) fn put_flags(bytes: &mut [u8], n: usize, seed: u32) -> u32
     requires { ⌜ n ≤ 6 ⌝ }
 {
     let mut x = seed;
@@ -73,7 +73,7 @@ pub fn put_flags(bytes: &mut [u8], n: usize, seed: u32) -> u32
 }
 
 // Puts the darts of the vertices right: one after the other, from any that leaves room for all.
-pub fn put_darts(bytes: &mut [u8], n: usize, v: usize, seed: u32) -> u32
+pub(crate) fn put_darts(bytes: &mut [u8], n: usize, v: usize, seed: u32) -> u32
     requires { ⌜ (n ≤ 6) × (v < n) ⌝ }
 {
     let x = next(seed);
@@ -98,7 +98,7 @@ fn spoil_coordinate(bytes: &mut [u8], at: usize, x: u32)
 }
 
 // Spoils one coordinate in eight or so.
-pub fn spoil_coordinates(bytes: &mut [u8], n: usize, v: usize, seed: u32) -> u32
+pub(crate) fn spoil_coordinates(bytes: &mut [u8], n: usize, v: usize, seed: u32) -> u32
     requires { ⌜ (n ≤ 6) × (v < n) ⌝ }
 {
     let mut x = seed;
@@ -121,7 +121,7 @@ fn any_image(i: usize, n: usize, to: usize) -> usize {
 }
 
 // Puts any images below n into the rows, half of them null, and none into row 0.
-pub fn put_rows(bytes: &mut [u8], n: usize, seed: u32) -> u32
+pub(crate) fn put_rows(bytes: &mut [u8], n: usize, seed: u32) -> u32
     requires { ⌜ (1 ≤ n) × (n ≤ 6) ⌝ }
 {
     let mut x = seed;
@@ -183,7 +183,7 @@ fn put_ring(bytes: &mut [u8], n: usize)
 }
 
 // Puts a map into the rows: a ring, with darts 1 and 2 glued by beta 2 or by beta 3 or not.
-pub fn put_map(bytes: &mut [u8], n: usize, seed: u32) -> u32
+pub(crate) fn put_map(bytes: &mut [u8], n: usize, seed: u32) -> u32
     requires { ⌜ n ≤ 6 ⌝ }
 {
     let x = next(seed);
@@ -204,7 +204,7 @@ fn small_or_any(x: u8) -> u8 {
 }
 
 // Overwrites one to three bytes anywhere, with small numbers or with any.
-pub fn overwrite(bytes: &mut [u8], seed: u32) -> u32 {
+pub(crate) fn overwrite(bytes: &mut [u8], seed: u32) -> u32 {
     let total = bytes.len();
     let mut x = next(seed);
     let mut left = 1 + below(x, 3);

@@ -73,7 +73,7 @@ fn judged(text: &[u8], sum: u32) -> Told {
 }
 
 // Reports a case.
-pub fn reported(bytes: &[u8], sum: u32) -> Told {
+pub(crate) fn reported(bytes: &[u8], sum: u32) -> Told {
     let mut flags = [0u8; 1024];
     let mut vertices = [0u8; 1024];
     let mut coordinates = [0.0f64; 3072];

@@ -5,30 +5,25 @@
 --   faced-own, faced-more  a regular one is its own identifier, and its whole face joins them
 --   faced-skip     one that is not regular leaves them as they are
 -- Assumes nothing.
-use Prim.Native.Nat.{ℕ, _+_, _-_, _≤_, _<_}
+use Prim.Native.Nat.{ℕ, _+_, _<_}
 use native.Mathlib.Nat.{eq-or-lt-of-le}
 use native.Mathlib.Omega.{arith}
-use mathlib.Core.Path.{_≡_, refl, sym, ap, _∙_, subst}
-use mathlib.Core.Logic.{_⊎_, inl, inr, ⊎-elim}
-use mathlib.Core.List.{List, [], _∷_, _++_, List·Memᴰ·not-nil}
-use mathlib.Mathlib.Logic.Relation.{ReflTransGenᴰ·refl, ReflTransGenᴰ·single}
-use lib.Dec.{eqb}
-use lib.ListN.{length}
-use borrow.Author.Tests.{eqb-true, eqb-false}
+use mathlib.Core.Path.{_≡_, sym, _∙_, subst}
+use mathlib.Core.Logic.{_⊎_, ⊎-elim}
+use mathlib.Core.List.{List, [], List·Memᴰ·not-nil}
+use mathlib.Mathlib.Logic.Relation.{ReflTransGenᴰ·trans}
 use Rattle.betas.specs.Betas.{darts}
 use Rattle.betas.specs.Maps.{WellFormed}
-use Rattle.orbits.specs.Steps.{image, face}
-use Rattle.orbits.specs.Search.{In, NoRep, search, Reach, Symmetric}
+use Rattle.orbits.specs.Steps.{face}
+use Rattle.orbits.specs.Search.{In, Reach, Symmetric}
 use Rattle.orbits.specs.Cgal.{faceΦ}
 use Rattle.orbits.specs.Idents.{ident}
-use Rattle.orbits.proofs.Lists.{bool}
-use Rattle.orbits.proofs.OrbitLaws.{Has, closed-reach}
 use Rattle.orbits.proofs.CgalLaws.{symmetric, face-serves}
 use Rattle.orbits.proofs.IdentLaws.{ident-reached, ident-le, ident-same, ident-one, reach-real, reach-below, reach-symm}
-use Rattle.lists.proofs.WidenLaws.{widened-only, widened-old, widened-new, widened-closed}
 use Rattle.faces.specs.Faces.{faceId, Regular}
 use Rattle.faces.specs.FaceLists.{Faced, Apart}
 use Rattle.faces.proofs.RegularLaws.{regular-spread, face-id-least}
+use Rattle.faces.proofs.RoundLaws.{Joined}
 
 module _ (rows : List ℕ) (w : WellFormed rows) where
   turns : Symmetric rows face
@@ -93,40 +88,22 @@ module _ (rows : List ℕ) (w : WellFormed rows) where
         pub faced-own : faceId rows d ≡ d
         faced-own = face-id-least rows w d h d-real g ∙ least-d
 
-        module _ (norep : NoRep k) (lt : (x : ℕ) → In x k → x < darts rows) where
-          has : (x : ℕ) → In x k → Has rows face k x
-          has x m s t =
-              ⊎-elim
-              (λ e. inl (eqb-true (image rows s x) 0 e))
-              (λ e.
-              inr
-              (v .closed x (image rows s x) m
-              (ReflTransGenᴰ·single (record { by = s; listed = t; leads = refl; real = eqb-false (image rows s x) 0 e }))))
-              (bool (eqb (image rows s x) 0))
+        -- a dart of d's face has d for its identifier
+        same : (x : ℕ) → Reach rows face d x → faceId rows x ≡ d
+        same x r =
+            face-id-least rows w x (reach-below rows face (w .below) d h r) (reach-real rows face d-real r) (regular-spread rows w h d-real g r)
+            ∙ sym (ident-same rows face (w .below) turns d x h r)
+            ∙ least-d
 
-          abbrev wide : List ℕ
-          wide = search rows face (darts rows - length k) (length k) (k ++ (d ∷ []))
-
-          -- a dart of d's face has d for its identifier
-          same : (x : ℕ) → Reach rows face d x → faceId rows x ≡ d
-          same x r =
-              face-id-least rows w x (reach-below rows face (w .below) d h r) (reach-real rows face d-real r) (regular-spread rows w h d-real g r)
-              ∙ sym (ident-same rows face (w .below) turns d x h r)
-              ∙ least-d
-
-          pub faced-more : Faced rows (d + 1) wide
-          faced-more =
-              let o = widened-only rows face (w .below) d k h out norep lt has in
-              let c = widened-closed rows face (w .below) d k h out norep lt has in
-              record {
-                only = λ x m. ⊎-elim (λ i. omega (arith, v .only x i)) (λ r. omega (arith, same x r)) (o x m);
-                real = λ x m. ⊎-elim (v .real x) (reach-real rows face d-real) (o x m);
-                closed = λ x y m r. closed-reach rows face wide c m r;
-                every = λ x x-lt r q t.
-                    ⊎-elim
-                    (λ e.
-                    closed-reach rows face wide c (widened-new rows face (w .below) d k h out norep lt has)
-                    (ident-one rows face (w .below) turns d x h x-lt (least-d ∙ sym e)))
-                    (λ u. widened-old rows face (w .below) d k h out norep lt has x (v .every x x-lt r q u))
-                    (split x t);
-              }
+        pub faced-more : (wide : List ℕ) → Joined rows d k wide → Faced rows (d + 1) wide
+        faced-more wide j =
+            record {
+              only = λ x m. ⊎-elim (λ i. omega (arith, v .only x i)) (λ r. omega (arith, same x r)) (j .only x m);
+              real = λ x m. ⊎-elim (v .real x) (reach-real rows face d-real) (j .only x m);
+              closed = λ x y m r. ⊎-elim (λ i. j .old y (v .closed x y i r)) (λ q. j .every y (ReflTransGenᴰ·trans q r)) (j .only x m);
+              every = λ x x-lt r q t.
+                  ⊎-elim
+                  (λ e. j .every x (ident-one rows face (w .below) turns d x h x-lt (least-d ∙ sym e)))
+                  (λ u. j .old x (v .every x x-lt r q u))
+                  (split x t);
+            }

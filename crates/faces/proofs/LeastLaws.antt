@@ -2,7 +2,7 @@
 -- face identifier is the least dart of the Face orbit.
 --   Round, round-starts, round-turn   the forward leg goes round the chain
 --   Whole, round-whole, round-ends    it ends with all of the chain seen
---   whole-least   a whole chain and its beta 3 images are the Face orbit
+--   whole-least, face-of-chain   a whole chain and its beta 3 images are the Face orbit
 --   face-least    the claim
 --   across-none   where no dart of the chain has a beta 3 image the steps between the images are those of the null dart
 -- Assumes nothing.
@@ -11,7 +11,7 @@ use mathlib.Core.Bool.{Bool, _||_}
 use mathlib.Core.Logic.{_⊎_, inl, inr, ⊎-elim}
 use mathlib.Core.List.{List, [], _∷_, _++_, List·Memᴰ·head, List·Memᴰ·not-nil, List·Memᴰ·cases-cons, List·Memᴰ·append-cases, List·Memᴰ·eq-of-singleton, Memᴰ·append-left, Memᴰ·append-right, Memᴰ·cast}
 use mathlib.Mathlib.Logic.Relation.{ReflTransGenᴰ·refl, ReflTransGenᴰ·tail}
-use Prim.Native.Nat.{ℕ, zero, suc, _+_, _-_, _≤_, _<_}
+use Prim.Native.Nat.{ℕ, zero, suc, _+_, _≤_, _<_}
 use native.Mathlib.Nat.{le-trans, le-antisymm, le-of-eq}
 use native.Mathlib.Omega.{arith}
 use lib.Dec.{lit<}
@@ -267,12 +267,22 @@ module _ (rows : List ℕ) (m : WellFormed rows) (d : ℕ) (lt : d < darts rows)
         (v .lows (q .0) (q .1) .1))
         (member r)
 
+  whole-chain : (s : List ℕ) × Whole rows d (forward rows [] d .low) s
+  unfolding forward
+  whole-chain = round-ends (darts rows) (record { seen = []; l = d; r = beta rows 3 d; low = lower d (beta rows 3 d) }) round-starts (omega arith)
+
+  pub face-of-chain : {x : ℕ} → Reach rows face d x → Reach rows chain d x ⊎ ((z : ℕ) × Reach rows chain d z × (beta rows 3 z ≡ x))
+  unfolding Member
+  face-of-chain {x} r =
+      let g = whole-chain in
+      ⊎-elim (λ i. inl (g .1 .of-chain x i)) (λ q. inr (q .0, g .1 .of-chain (q .0) (q .1), q .2)) (member _ (g .0) (g .1) r)
+
   -- ---- so the face identifier is the orbit's least
 
   pub face-least : faceId rows d ≡ ident rows face d
-  unfolding faceId forward
+  unfolding faceId
   face-least =
-      let g = round-ends (darts rows) (record { seen = []; l = d; r = beta rows 3 d; low = lower d (beta rows 3 d) }) round-starts (omega arith) in
+      let g = whole-chain in
       let f = walk-facts rows m d in
       le-antisymm
       (le-trans (f .1) (whole-least _ (g .0) (g .1) (ident-reached rows face (m .below) d lt)))

@@ -1,4 +1,6 @@
 -- Regular faces: the test finds them, and a whole face is regular where one of its darts is.
+--   Ring, ring-reach                  a list that is a whole chain
+--   regular-round                     a test that passes has gone round, with whatever its turns pass on
 --   regular-sound, regular-complete   the test passes exactly where the face is regular
 --   regular-spread                    what a dart of a regular face reaches by the face's steps is regular too
 --   regular-alone, regular-paired     the two cases of document 01
@@ -9,13 +11,13 @@ use Prim.Native.Nat.{ℕ, zero, suc, _+_, _≤_, _<_}
 use native.Mathlib.Omega.{arith}
 use native.Mathlib.Decide.{ℕ-discrete}
 use mathlib.Core.Path.{_≡_, refl, sym, ap, _∙_, subst}
-use mathlib.Core.Bool.{Bool, true, false, cond, not, true≢false, false≢true}
+use mathlib.Core.Bool.{Bool, true, false, cond, not, false≢true}
 use mathlib.Core.Logic.{_≢_, _⊎_, inl, inr, ⊎-elim, by-cases}
-use mathlib.Core.List.{List, [], _∷_, _++_, List·Memᴰ·head, List·Memᴰ·tail, List·Memᴰ·not-nil, List·Memᴰ·cases-cons, List·Memᴰ·eq-of-singleton, Memᴰ·cast}
-use mathlib.Mathlib.Logic.Relation.{ReflTransGenᴰ, ReflTransGenᴰ·refl, ReflTransGenᴰ·tail, ReflTransGenᴰ·trans, ReflTransGenᴰ·single}
+use mathlib.Core.List.{List, [], _∷_, List·Memᴰ·head, List·Memᴰ·tail, List·Memᴰ·not-nil, List·Memᴰ·cases-cons, List·Memᴰ·eq-of-singleton, Memᴰ·cast}
+use mathlib.Mathlib.Logic.Relation.{ReflTransGenᴰ·refl, ReflTransGenᴰ·tail, ReflTransGenᴰ·trans, ReflTransGenᴰ·single}
 use lib.Dec.{eqb, lit<}
 use lib.ListN.{length, length-append}
-use borrow.Author.Tests.{eqb-true, eqb-false, eq-eqb, ne-eqb, not-false}
+use borrow.Author.Tests.{eqb-true, eqb-false, eq-eqb, ne-eqb}
 use Rattle.betas.specs.Betas.{beta, darts}
 use Rattle.betas.specs.Maps.{WellFormed}
 use Rattle.orbits.specs.Steps.{image, face}
@@ -23,7 +25,7 @@ use Rattle.orbits.specs.Search.{In, Step, Reach}
 use Rattle.orbits.specs.Idents.{ident}
 use Rattle.orbits.proofs.OrbitLaws.{Has, closed-reach}
 use Rattle.orbits.proofs.IdentLaws.{reach-below, reach-real}
-use Rattle.faces.specs.Faces.{Walk, lower, faceId, chain, Regular, regularFrom, regular}
+use Rattle.faces.specs.Faces.{Walk, faceId, chain, Regular, regularFrom, regular}
 use Rattle.faces.proofs.LeastLaws.{Round, round-starts, round-turn, round-room, face-least, across-none}
 use Rattle.faces.proofs.SoundLaws.{walk-facts}
 
@@ -93,22 +95,38 @@ module _ (rows : List ℕ) (w : WellFormed rows) (d : ℕ) where
           last = λ y m. ⊎-elim (λ p. List·Memᴰ·head (ap (beta rows 0) (p ∙ sym e) ∙ back-x)) (λ i. i) (arc-turn .last y m);
         }
 
-  -- the test goes round an arc
-  test-ring : (f x : ℕ) (s : List ℕ) → Arc rows d x s → regularFrom rows d f x ≡ true → (t : List ℕ) × Ring rows d t
-  unfolding regularFrom
-  test-ring zero x s v e = absurd (false≢true e)
-  test-ring (suc f) x s v e =
-      go (eqb (beta rows 1 x) 0) refl (eqb (beta rows 3 (beta rows 1 x)) (beta rows 0 (beta rows 3 x))) refl (eqb (beta rows 1 x) d) refl
-      (test-ring f (beta rows 1 x)) e
-    where
-      go : (a : Bool) → eqb (beta rows 1 x) 0 ≡ a → (b : Bool) → eqb (beta rows 3 (beta rows 1 x)) (beta rows 0 (beta rows 3 x)) ≡ b →
-          (c : Bool) → eqb (beta rows 1 x) d ≡ c →
-          ((s′ : List ℕ) → Arc rows d (beta rows 1 x) s′ → regularFrom rows d f (beta rows 1 x) ≡ true → (t : List ℕ) × Ring rows d t) →
-          cond a false (cond (not b) false (cond c true (regularFrom rows d f (beta rows 1 x)))) ≡ true → (t : List ℕ) × Ring rows d t
-      go true ea b eb c ec more t = absurd (false≢true t)
-      go false ea false eb c ec more t = absurd (false≢true t)
-      go false ea true eb true ec more t = (x ∷ s, arc-ring x s v (eqb-false _ _ ea) (eqb-true _ _ eb) (eqb-true _ _ ec))
-      go false ea true eb false ec more t = more (x ∷ s) (arc-turn x s v (eqb-false _ _ ea) (eqb-true _ _ eb)) t
+  -- the test goes round an arc, with whatever its turns pass on
+  module _ (Q : ℕ → ℕ → List ℕ → Type 0) (R : List ℕ → Type 0) (on : (f x : ℕ) (a : List ℕ) → Q (suc f) x a → (beta rows 1 x ≡ 0 → ⊥) → (beta rows 1 x ≡ d → ⊥) → Q f (beta rows 1 x) (x ∷ a)) (end : (f x : ℕ) (a : List ℕ) → Q (suc f) x a → (beta rows 1 x ≡ 0 → ⊥) → beta rows 1 x ≡ d → R (x ∷ a)) where
+    -- a whole chain, of which R holds
+    Found : Type 0
+    Found = (t : List ℕ) × Ring rows d t × R t
+
+    arc-round : (f x : ℕ) (s : List ℕ) → Arc rows d x s → Q f x s → regularFrom rows d f x ≡ true → Found
+    unfolding regularFrom Found
+    arc-round zero x s v q e = absurd (false≢true e)
+    arc-round (suc f) x s v q e =
+        go (eqb (beta rows 1 x) 0) refl (eqb (beta rows 3 (beta rows 1 x)) (beta rows 0 (beta rows 3 x))) refl (eqb (beta rows 1 x) d) refl
+        (arc-round f (beta rows 1 x)) e
+      where
+        go : (a : Bool) → eqb (beta rows 1 x) 0 ≡ a → (b : Bool) → eqb (beta rows 3 (beta rows 1 x)) (beta rows 0 (beta rows 3 x)) ≡ b →
+            (c : Bool) → eqb (beta rows 1 x) d ≡ c →
+            ((s′ : List ℕ) → Arc rows d (beta rows 1 x) s′ → Q f (beta rows 1 x) s′ → regularFrom rows d f (beta rows 1 x) ≡ true → Found) →
+            cond a false (cond (not b) false (cond c true (regularFrom rows d f (beta rows 1 x)))) ≡ true → Found
+        go true ea b eb c ec more t = absurd (false≢true t)
+        go false ea false eb c ec more t = absurd (false≢true t)
+        go false ea true eb true ec more t =
+            let real = eqb-false _ _ ea in
+            let back = eqb-true _ _ ec in (x ∷ s, arc-ring x s v real (eqb-true _ _ eb) back, end f x s q real back)
+        go false ea true eb false ec more t =
+            let real = eqb-false _ _ ea in more (x ∷ s) (arc-turn x s v real (eqb-true _ _ eb)) (on f x s q real (eqb-false _ _ ec)) t
+
+    pub regular-round : Q (darts rows) d [] → regular rows d ≡ true → (t : List ℕ) × Ring rows d t × R t
+    unfolding regular Found
+    regular-round q e = arc-round (darts rows) d [] arc-starts q e
+
+  test-ring : regular rows d ≡ true → (t : List ℕ) × Ring rows d t
+  test-ring e =
+      let r = regular-round (λ f x a. Unit {0}) (λ t. Unit {0}) (λ f x a q u v. tt) (λ f x a q u v. tt) tt e in (r .0, r .1)
 
   module _ (s : List ℕ) (v : Ring rows d s) where
     ring-has : (x : ℕ) → In x s → Has rows chain s x
@@ -130,8 +148,7 @@ module _ (rows : List ℕ) (w : WellFormed rows) (d : ℕ) where
     ring-real {x} r z = v .closed (beta rows 0 x) (v .last x (ring-reach r)) (ap (beta rows 1) z ∙ w .null 1 (lit< tt))
 
   pub regular-sound : regular rows d ≡ true → Regular rows d
-  unfolding regular
-  regular-sound e = let r = test-ring (darts rows) d [] arc-starts e in ring-regular (r .0) (r .1)
+  regular-sound e = let r = test-ring e in ring-regular (r .0) (r .1)
 
   module _ (lt : d < darts rows) (real : d ≡ 0 → ⊥) (v : Regular rows d) where
     -- the test does not use up its turns
@@ -152,12 +169,8 @@ module _ (rows : List ℕ) (w : WellFormed rows) (d : ℕ) where
     regular-complete =
         round-test (darts rows) _ (round-starts rows w d lt real (v .closed) (v .across)) (λ m. List·Memᴰ·not-nil m) (omega arith)
 
-    regular-ring : (s : List ℕ) × Ring rows d s
-    unfolding regular
-    regular-ring = test-ring (darts rows) d [] arc-starts regular-complete
-
     pub back-real : {x : ℕ} → Reach rows chain d x → beta rows 0 x ≡ 0 → ⊥
-    back-real r = let g = regular-ring in ring-real (g .0) (g .1) r
+    back-real r = let g = test-ring regular-complete in ring-real (g .0) (g .1) r
 
     -- ---- the images by beta 3 are a regular chain
 

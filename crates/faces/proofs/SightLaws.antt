@@ -3,26 +3,25 @@
 --   asked, asked-room, asked-below   the walk of a dart with darts marked before, unmarked again
 --   sighted-old, sighted-more, sighted-skip   the three cases of a look
 -- Assumes nothing.
-use Prim.Native.Nat.{ℕ, zero, suc, _+_, _-_, _≤_, _<_}
+use Prim.Native.Nat.{ℕ, suc, _+_, _-_, _≤_, _<_}
 use native.Mathlib.Omega.{arith}
 use mathlib.Core.Path.{_≡_, refl, sym, ap, _∙_, subst}
-use mathlib.Core.Bool.{Bool, true, false, cond, not, false≢true, true≢false}
-use mathlib.Core.List.{List, [], _∷_, _++_}
+use mathlib.Core.Bool.{Bool, true, false, true≢false}
+use mathlib.Core.List.{List, [], _++_}
 use lib.Dec.{eqb}
 use lib.ListN.{length, getD, take, drop}
-use lib.Seq.{length-take-le}
 use borrow.Author.Tests.{eq-eqb, ne-eqb}
 use Rattle.betas.specs.Betas.{beta, darts}
 use Rattle.betas.specs.Maps.{WellFormed}
-use Rattle.orbits.specs.Steps.{face}
-use Rattle.orbits.specs.Search.{In, mem, add, search}
-use Rattle.orbits.specs.Loans.{flag, Queue, Grown, Cleared}
+use Rattle.orbits.specs.Search.{In, mem}
+use Rattle.orbits.specs.Loans.{Queue, Grown, Cleared}
 use Rattle.orbits.proofs.Lists.{mem-in, not-mem}
-use Rattle.orbits.proofs.QueueLaws.{flag-zero, flag-some, add-new, queue-n}
+use Rattle.orbits.proofs.QueueLaws.{flag-zero, flag-some, queue-n}
 use Rattle.orbits.proofs.TurnLaws.{drop-more}
-use Rattle.faces.specs.Faces.{Walk, faceWalk, faceId, Regular, regularFrom, regular, Walked}
-use Rattle.faces.specs.FaceLists.{Faced, Apart, Asked, Sighted}
+use Rattle.faces.specs.Faces.{faceWalk, faceId, Regular, regularFrom, regular, Walked}
+use Rattle.faces.specs.FaceLists.{goRound, Faced, Apart, Asked, Sighted}
 use Rattle.faces.proofs.RegularLaws.{regular-sound, regular-complete}
+use Rattle.faces.proofs.RoundLaws.{round-joins}
 use Rattle.faces.proofs.AvoidLaws.{walk-low, walk-seen}
 use Rattle.faces.proofs.UnmarkLaws.{old-same, unmarked, part-is, part-room, part-below}
 use Rattle.faces.proofs.FacedLaws.{faced-not, faced-old, apart-out, faced-own, faced-more, faced-skip}
@@ -108,22 +107,16 @@ module _ (rows : List ℕ) (w : WellFormed rows) (d : ℕ) (some : 0 < d) (h : d
     apart = apart-out rows w d (take known queue) h some v out
 
     pub sighted-more : (g : Bool) → g ≡ regular rows d → g ≡ true → (marks′ queue′ : List ℕ) (r : ℕ) → length marks′ ≡ length marks →
-        Grown queue known (search rows face (darts rows - known) known (add (take known queue) d)) marks′ queue′ r → Sighted rows d queue marks′ queue′ true r
+        Grown queue known (goRound rows d (take known queue)) marks′ queue′ r → Sighted rows d queue marks′ queue′ true r
     sighted-more b e t marks′ queue′ r e-m g =
-        let k : List ℕ = take known queue in
-        let reg : Regular rows d = regular-sound rows w d (sym e ∙ t) in
-        let d-real : d ≡ 0 → ⊥ = λ z. omega arith in
-        let lt : (x : ℕ) → In x (take known queue) → x < darts rows = λ x m. omega (arith, q .below x m) in
-        let n : length (take known queue) ≡ known = length-take-le known queue (q .room) in
-        let f : take r queue′ ≡ search rows face (darts rows - length (take known queue)) (length (take known queue)) (take known queue ++ (d ∷ [])) =
-        g .front
-        ∙ ap (search rows face (darts rows - known) known) (add-new (take known queue) d d-real absent)
-        ∙ ap (λ (i : ℕ). search rows face (darts rows - i) i (take known queue ++ (d ∷ []))) (sym n) in
+        let test : regular rows d ≡ true = sym e ∙ t in
+        let reg : Regular rows d = regular-sound rows w d test in
+        let j = round-joins rows d (take known queue) w h (λ z. omega arith) test in
         let few : r ≤ darts rows = omega (arith, queue-n marks′ queue′ r (g .queue), e-m, n-is) in
         record {
           own-is = sym (eq-eqb (faceId rows d) d (faced-own rows w d (take known queue) h some v out reg));
           held = g .queue;
-          faced = rw f (faced-more rows w d (take known queue) h some v out reg (q .norep) lt);
+          faced = rw (g .front) (faced-more rows w d (take known queue) h some v out reg _ j);
           rest = drop-more queue′ queue r (darts rows) few (g .back);
         }
 

@@ -1,19 +1,32 @@
 -- The darts that the list of faces has done with.
---   Faced rows d k   k holds the darts of whole regular faces: all whose least dart is below d, and no dart that is its own identifier from d on
---   Apart rows d k   d reaches none of k
---   Asked, Sighted   what the list learns of one dart: by the walk, and in all
-use Prim.Native.Nat.{ℕ, _+_, _<_}
+--   roundFrom          the walk round a chain, from one of its darts on
+--   goRound rows d s   s with the darts of d's chain behind it, each with its beta 3 image, by one walk round
+--   Faced rows d k     k holds the darts of whole regular faces: all whose least dart is below d, and no dart that is its own identifier from d on
+--   Apart rows d k     d reaches none of k
+--   Asked, Sighted     what the list learns of one dart: by the walk, and in all
+use Prim.Native.Nat.{ℕ, zero, suc, _+_, _<_}
 use mathlib.Core.Path.{_≡_}
-use mathlib.Core.Bool.{Bool}
+use mathlib.Core.Bool.{Bool, cond}
 use mathlib.Core.List.{List}
 use lib.Dec.{eqb}
 use lib.ListN.{take, drop}
-use Rattle.betas.specs.Betas.{darts}
+use Rattle.betas.specs.Betas.{beta, darts}
 use Rattle.orbits.specs.Steps.{face}
-use Rattle.orbits.specs.Search.{In, Reach}
+use Rattle.orbits.specs.Search.{In, add, Reach}
 use Rattle.orbits.specs.Idents.{ident}
 use Rattle.orbits.specs.Loans.{Queue}
 use Rattle.faces.specs.Faces.{faceId, Regular}
+
+-- from x on round to d, each dart and its beta 3 image put behind s, with f turns at most
+unfoldable pub roundFrom : List ℕ → ℕ → ℕ → ℕ → List ℕ → List ℕ
+roundFrom rows d zero x s = s
+roundFrom rows d (suc f) x s =
+    let t = add (add s x) (beta rows 3 x) in
+    let more = roundFrom rows d f (beta rows 1 x) t in
+    cond (eqb (beta rows 1 x) d) t more
+
+unfoldable pub goRound : List ℕ → ℕ → List ℕ → List ℕ
+goRound rows d s = roundFrom rows d (darts rows) d s
 
 pub record Faced (rows : List ℕ) (d : ℕ) (k : List ℕ) : Type 0 where
   pub only : (x : ℕ) → In x k → faceId rows x < d

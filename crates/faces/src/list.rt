@@ -1,12 +1,10 @@
-// The list of faces. Where a face is regular one visit serves all of its darts; elsewhere each dart is asked by the walk.
+// The list of faces. Where a face is regular one walk round its chain serves all of its darts; elsewhere each dart is asked by the walk of `face_id`.
 use crate::walk::walk;
 use betas::betas::beta_at;
-use lists::grow;
-use orbits::policy::FACE;
 use orbits::scratch::clear;
 use orbits::scratch::wipe_marks;
 use orbits::scratch::wipe_queue;
-use orbits::visits::Written;
+use orbits::search::push;
 ghost use mathlib.Core.Path.{_≡_};
 ghost use mathlib.Core.Bool.{_&&_};
 ghost use lib.Dec.{eqb};
@@ -14,11 +12,11 @@ ghost use Prim.Native.Nat.{ℕ, _<_, _≤_};
 ghost use lib.ListN.{length, take};
 ghost use Rattle.betas.specs.Betas.{darts};
 ghost use Rattle.betas.specs.Maps.{WellFormed};
-ghost use Rattle.orbits.specs.Loans.{Zero, Queue, Scratch, Listed};
+ghost use Rattle.orbits.specs.Loans.{Zero, Queue, Grown, Scratch, Listed};
 ghost use Rattle.orbits.specs.Calls.{wiped};
 ghost use Rattle.lists.specs.CellLists.{Put, cellsBy};
 ghost use Rattle.faces.specs.Faces.{faceId, regular};
-ghost use Rattle.faces.specs.FaceLists.{Faced, Apart, Asked, Sighted};
+ghost use Rattle.faces.specs.FaceLists.{goRound, Faced, Apart, Asked, Sighted};
 
 // Whether d is its own face identifier, and how many darts the list has done with then.
 pub struct Sight {
@@ -51,6 +49,26 @@ fn is_regular(rows: &[u32], d: u32) -> bool
     false
 }
 
+// Puts the darts of d's chain behind the queue, each with its beta 3 image, once round.
+fn go_round(rows: &[u32], marks: &mut [u8], queue: &mut [u32], known: usize, d: u32) -> usize
+    requires { ⌜ Scratch (now rows) (now marks) (now queue) × (d < darts (now rows)) × Queue (now marks) (now queue) known ⌝ }
+    ensures { λ r. ⌜ Grown (now (queue .entry)) known (goRound (now (rows .entry)) d (take known (now (queue .entry)))) (now (marks .exit)) (now (queue .exit)) r ⌝ }
+{
+    let mut left = rows.len() / 4;
+    let mut k = known;
+    let mut x = d;
+    while 0 < left {
+        let a = push(marks, queue, k, x);
+        k = push(marks, queue, a, beta_at(rows, 3, x));
+        x = beta_at(rows, 1, x);
+        if x == d {
+            return k;
+        }
+        left -= 1;
+    }
+    k
+}
+
 // The face identifier of d by the walk, with the darts that the list has done with marked: d reaches none of them.
 fn ask(rows: &[u32], marks: &mut [u8], queue: &mut [u32], known: usize, d: u32) -> u32
     requires { ⌜ Scratch (now rows) (now marks) (now queue) × (d < darts (now rows)) × Queue (now marks) (now queue) known × Apart (now rows) d (take known (now queue)) ⌝ }
@@ -72,8 +90,7 @@ fn look(rows: &[u32], marks: &mut [u8], queue: &mut [u32], known: usize, d: u32)
         return Sight { own: false, known };
     }
     if is_regular(rows, d) {
-        let steps = FACE;
-        let more = grow(rows, Written::Face, &steps, marks, queue, known, d);
+        let more = go_round(rows, marks, queue, known, d);
         return Sight {
             own: true,
             known: more,

@@ -1,9 +1,5 @@
 -- `list::look` meets its contract, by the three cases of `proofs/SightLaws.antt`. Assumes nothing.
-use mathlib.Core.Path.{_≡_, refl, sym, ap, _∙_}
 use native.Mathlib.Omega.{arith}
-use Rattle.orbits.specs.declared.policy.OrbitPolicy.the-variants as policy
-use Rattle.orbits.proofs.StepLaws.{steps-are}
-use Rattle.orbits.proofs.ScratchLaws.{scratch-fit}
 use Rattle.faces.proofs.SightLaws.{apart, sighted-old, sighted-more, sighted-skip}
 use borrow.Author.Needs.{needs}
 use Rattle.faces.proofs.list.look.Statement.{statement}
@@ -20,13 +16,10 @@ returns c =
 is-regular-requires : tie.Need-is-regular-requires
 is-regular-requires c κs = (c .before .before .before .before .before .pre .0 .formed, c .before .before .before .before .before .pre .2)
 
-slice-aggregate-grow : tie.Need-slice-aggregate-grow
-slice-aggregate-grow c = search needs
-
-grow-requires : tie.Need-grow-requires
-grow-requires c κs =
-    let s = c .before .before .before .before .before .before .before .before .before .before in
-    (scratch-fit (s .pre .0) (steps-are policy.Face), s .pre .3, s .pre .2, refl)
+go-round-requires : tie.Need-go-round-requires
+go-round-requires c κs =
+    let s = c .before .before .before .before .before .before .before .before .before in
+    (s .pre .0, s .pre .2, s .pre .3)
 
 same-length : tie.Need-same-length
 same-length c = search needs
@@ -36,9 +29,9 @@ same-length-2 c = search needs
 
 returns-2 : tie.Need-returns-2
 returns-2 c =
-    let s = c .before .before .before .before .before .before .before .before .before .before .before .before .before .before .before in
-    sighted-more (s .args .rows .now) (s .pre .0 .formed) (s .args .d) (s .pre .1) (s .pre .2) (s .args .marks .now) (s .args .queue .now) (s .args .known) (s .pre .0 .marks-n) (s .pre .3) (s .pre .4) (c .before .before .before .before .before .before .before .before .before .before .if1 .left)
-    (c .before .before .before .before .before .before .before .before .before .is-regular .result) (c .before .before .before .before .before .before .before .before .before .is-regular .ensures) (c .before .before .before .before .before .before .before .before .if2 .taken) _ _ _ (c .before .before .before .before .grow .kept .1 .1 .1 .0) (c .before .before .before .before .grow .ensures)
+    let s = c .before .before .before .before .before .before .before .before .before .before .before .before .before .before in
+    sighted-more (s .args .rows .now) (s .pre .0 .formed) (s .args .d) (s .pre .1) (s .pre .2) (s .args .marks .now) (s .args .queue .now) (s .args .known) (s .pre .0 .marks-n) (s .pre .3) (s .pre .4) (c .before .before .before .before .before .before .before .before .before .if1 .left)
+    (c .before .before .before .before .before .before .before .before .is-regular .result) (c .before .before .before .before .before .before .before .before .is-regular .ensures) (c .before .before .before .before .before .before .before .if2 .taken) _ _ _ (c .before .before .before .before .go-round .kept .1 .0) (c .before .before .before .before .go-round .ensures)
 
 ask-requires : tie.Need-ask-requires
 ask-requires c κs =
@@ -68,8 +61,7 @@ look-spec =
     slice-read-if1
     returns
     is-regular-requires
-    slice-aggregate-grow
-    grow-requires
+    go-round-requires
     same-length
     same-length-2
     returns-2

@@ -1,6 +1,8 @@
 -- Going through the darts in order, with the cells of the darts passed marked: a dart that is not marked is the least of its cell.
 --   Known                      a list has exactly the darts whose identifier is below d
+--   known-closed               it leads nowhere but to itself
 --   known-starts, -old, -same, -new, -more   it is kept from dart to dart
+--   more-real                  and it has no null dart
 --   cells-flags, cells-other, cells-own      the step laws of `cellsFrom`
 -- Assumes nothing.
 use mathlib.Core.Path.{_≡_, refl, sym, ap, _∙_, subst}
@@ -15,14 +17,14 @@ use lib.Dec.{eqb}
 use lib.ListN.{length, getD, length-append, List·getD-append}
 use borrow.Author.Tests.{eqb-true, eqb-false, eq-eqb, ne-eqb}
 use Rattle.lists.specs.CellLists.{cellsFrom}
+use Rattle.lists.specs.Joins.{Closed, Joined}
 use Rattle.betas.specs.Betas.{darts}
 use Rattle.orbits.specs.Idents.{ident}
-use Rattle.orbits.specs.Search.{In, NoRep, search, Step, Reach, Bounded, Symmetric}
+use Rattle.orbits.specs.Search.{In, Reach, Bounded, Symmetric}
 use Rattle.orbits.specs.Steps.{image}
 use Rattle.orbits.proofs.Lists.{bool}
-use Rattle.orbits.proofs.OrbitLaws.{Has, closed-reach, image-below}
+use Rattle.orbits.proofs.OrbitLaws.{image-below}
 use Rattle.orbits.proofs.IdentLaws.{reach-real, reach-below, ident-reached, ident-le, ident-same, ident-one, ident-twice}
-use Rattle.lists.proofs.WidenLaws.{widened-only, widened-old, widened-new, widened-closed}
 
 -- l has the darts whose identifier is below d, and no others
 pub record Known (rows steps : List ℕ) (d : ℕ) (l : List ℕ) : Type 0 where
@@ -44,6 +46,20 @@ module _ (rows steps : List ℕ) (b : Bounded rows) (y : Symmetric rows steps) w
       }
 
   module _ (d : ℕ) (l : List ℕ) (h : d < darts rows) (v : Known rows steps d l) where
+    -- the list leads nowhere but to itself
+    pub known-closed : ((x : ℕ) → In x l → x < darts rows) → Closed rows steps l
+    known-closed lt =
+        record {
+          image-in = λ x m s t.
+              ⊎-elim
+              (λ e. inl (eqb-true (image rows s x) 0 e))
+              (λ e.
+              let z = eqb-false (image rows s x) 0 e in
+              let p : Reach rows steps x (image rows s x) = ReflTransGenᴰ·single (record { by = s; listed = t; leads = refl; real = z }) in
+              inr (v .every (image rows s x) (image-below rows b s x) z (subst (λ (i : ℕ). i < d) (ident-same rows steps b y x (image rows s x) (lt x m) p) (v .only x m))))
+              (bool (eqb (image rows s x) 0));
+        }
+
     -- a listed dart is not its own identifier
     pub known-old : In d l → id d ≡ d → ⊥
     known-old m e = omega (arith, v .only d m)
@@ -67,40 +83,24 @@ module _ (rows steps : List ℕ) (b : Bounded rows) (y : Symmetric rows steps) w
       pub known-new : id d ≡ d
       known-new = ⊎-elim (λ e. e) (λ t. absurd (out (v .every d h r t))) (eq-or-lt-of-le (ident-le rows steps b d h))
 
-      -- the list leads nowhere but to itself
-      l-closed : ((x : ℕ) → In x l → x < darts rows) → ((x : ℕ) → In x l → x ≡ 0 → ⊥) → (x : ℕ) → In x l → Has rows steps l x
-      l-closed lt real x m s t =
-          ⊎-elim
-          (λ e. inl (eqb-true (image rows s x) 0 e))
-          (λ e.
-          let z = eqb-false (image rows s x) 0 e in
-          let p : Reach rows steps x (image rows s x) = ReflTransGenᴰ·single (record { by = s; listed = t; leads = refl; real = z }) in
-          inr (v .every (image rows s x) (image-below rows b s x) z (subst (λ (i : ℕ). i < d) (ident-same rows steps b y x (image rows s x) (lt x m) p) (v .only x m))))
-          (bool (eqb (image rows s x) 0))
-
-      module _ (norep : NoRep l) (lt : (x : ℕ) → In x l → x < darts rows) (real : (x : ℕ) → In x l → x ≡ 0 → ⊥) where
-        abbrev M : List ℕ
-        M = search rows steps (darts rows - length l) (length l) (l ++ (d ∷ []))
-
-        pub known-more : Known rows steps (d + 1) M
+      module _ (m : List ℕ) (j : Joined rows steps d l m) where
+        pub known-more : Known rows steps (d + 1) m
         known-more =
             record {
-              only = λ x m.
+              only = λ x i.
                   ⊎-elim
                   (λ q. omega (arith, v .only x q))
                   (λ q. omega (arith, ident-same rows steps b y d x h q, known-new))
-                  (widened-only rows steps b d l h out norep lt (l-closed lt real) x m);
+                  (j .only x i);
               every = λ x x-lt z q.
                   ⊎-elim
-                  (λ e.
-                  closed-reach rows steps M (widened-closed rows steps b d l h out norep lt (l-closed lt real)) (widened-new rows steps b d l h out norep lt (l-closed lt real))
-                  (ident-one rows steps b y d x h x-lt (known-new ∙ sym e)))
-                  (λ t. widened-old rows steps b d l h out norep lt (l-closed lt real) x (v .every x x-lt z t))
+                  (λ e. j .every x (ident-one rows steps b y d x h x-lt (known-new ∙ sym e)))
+                  (λ t. j .old x (v .every x x-lt z t))
                   (eq-or-lt-of-le (omega arith));
             }
 
-        pub more-real : (x : ℕ) → In x M → x ≡ 0 → ⊥
-        more-real x m = ⊎-elim (real x) (reach-real rows steps r) (widened-only rows steps b d l h out norep lt (l-closed lt real) x m)
+        pub more-real : ((x : ℕ) → In x l → x ≡ 0 → ⊥) → (x : ℕ) → In x m → x ≡ 0 → ⊥
+        more-real real x i = ⊎-elim (real x) (reach-real rows steps r) (j .only x i)
 
 -- ---- the step laws of `cellsFrom`
 

@@ -1,6 +1,5 @@
 -- The loop of the list, and that a turn keeps its invariant.
 --   put-none, put-one     a dart put behind an output's first places, or not
---   grown-both, grown-none   a push and a flood; a push of nothing
 --   Listing, listing-..   the loop
 --   marks-same, queue-wiped   scratch at the end
 -- Assumes nothing.
@@ -17,17 +16,17 @@ use lib.ListN.{length, getD, take, drop, set, replicate, length-set, length-appe
 use lib.Seq.{length-take-le, take-suc-set, drop-set-lt, drop-length, take-length}
 use borrow.Author.Tests.{eqb-true, eqb-false, eq-eqb, ne-eqb, lt-ltb, le-ltb}
 use Rattle.lists.specs.CellLists.{cellsFrom, cellsBy, cellList, Put}
+use Rattle.lists.specs.Joins.{Closed, Grew}
 use Rattle.orbits.specs.Idents.{ident}
 use Rattle.betas.specs.Betas.{darts}
 use Rattle.orbits.specs.Loans.{Queue, Grown, Listed, Zero}
 use Rattle.orbits.specs.Calls.{wiped}
-use Rattle.orbits.specs.Search.{In, add, search, Bounded, Symmetric}
-use Rattle.orbits.proofs.Lists.{bool}
-use Rattle.orbits.proofs.SearchLaws.{Added, null, old, new, added, Ext, search-done, search-ext, ext-length}
+use Rattle.orbits.specs.Search.{In, mem, Bounded, Symmetric}
+use Rattle.orbits.proofs.Lists.{bool, mem-in, not-mem}
 use Rattle.orbits.proofs.QueueLaws.{queue-n}
 use Rattle.orbits.proofs.TurnLaws.{drop-more}
 use Rattle.orbits.proofs.ScratchLaws.{zero-split}
-use Rattle.lists.proofs.KnownLaws.{Known, known-starts, known-old, known-same, known-new, known-more, more-real, cells-flags, cells-other, cells-own}
+use Rattle.lists.proofs.KnownLaws.{Known, known-closed, known-starts, known-old, known-same, known-new, known-more, more-real, cells-flags, cells-other, cells-own}
 
 -- ---- `put`
 
@@ -43,23 +42,6 @@ module _ (x : ℕ) (out : List ℕ) (count : ℕ) where
         more = omega arith;
         one = omega arith;
       }
-
--- ---- `grow`: a push and a flood
-
-pub grown-both : (q : List ℕ) (f : ℕ) (l m₁ q₁ : List ℕ) (k : ℕ) (t m₂ q₂ : List ℕ) (r : ℕ) → Grown q f l m₁ q₁ k → Grown q₁ k t m₂ q₂ r → Grown q f t m₂ q₂ r
-grown-both q f l m₁ q₁ k t m₂ q₂ r a b =
-    record {
-      front = b .front;
-      back = b .back ∙ drop-more q₁ q k r (b .more) (a .back);
-      more = le-trans (a .more) (b .more);
-      queue = b .queue;
-    }
-
--- where the push adds nothing there is nothing to visit
-pub grown-none : (rows steps q : List ℕ) (f : ℕ) (l m₁ q₁ : List ℕ) (k : ℕ) → Grown q f l m₁ q₁ k → k ≡ f → Grown q f (search rows steps (darts rows - f) f l) m₁ q₁ f
-grown-none rows steps q f l m₁ q₁ k g e =
-    let n : length l ≤ f = omega (arith, e, ap length (g .front), length-take-le k q₁ (g .queue .room)) in
-    subst (λ (j : ℕ). Grown q f (search rows steps (darts rows - f) f l) m₁ q₁ j) e (rw (search-done rows steps (darts rows - f) f l n) g)
 
 -- ---- the loop: the darts before d are passed
 
@@ -90,45 +72,39 @@ module _ (rows steps flags : List ℕ) (b : Bounded rows) (y : Symmetric rows st
   grew : found < r → cond (true && eqb (getD flags d 0) 0) (d ∷ []) [] ++ cellsFrom (ident rows steps) flags (d + 1) (darts rows - (d + 1)) ≡ cond (ltb found r && eqb (getD flags d 0) 0) (d ∷ []) [] ++ cellsFrom (ident rows steps) flags (d + 1) (darts rows - (d + 1))
   grew f = ap (λ (t : Bool). cond (t && eqb (getD flags d 0) 0) (d ∷ []) [] ++ cellsFrom (ident rows steps) flags (d + 1) (darts rows - (d + 1))) (sym (lt-ltb found r f))
 
-  turned : (l′ a : List ℕ) → Added (take found queue) d a → length l′ ≡ r → l′ ≡ search rows steps (darts rows - found) found a → Turned rows steps flags found d r l′
-  turned l′ a (null e) w s = absurd (omega arith)
-  turned l′ a (old m) w s =
-      let s′ : l′ ≡ take found queue = s ∙ search-done rows steps (darts rows - found) found (take found queue) (omega (arith, l-length)) in
-      let f : r ≤ found = omega (arith, ap length s′, l-length) in
+  turned : (marks′ queue′ : List ℕ) → Grew rows steps d queue found marks′ queue′ r → Turned rows steps flags found d r (take r queue′)
+  turned marks′ queue′ g =
+      ⊎-elim
+      (λ u.
+      let m : In d (take found queue) = mem-in d (take found queue) u in
+      let e = g .same m in
       record {
-        known = rw s′ (known-same rows steps b y d (take found queue) h k m);
-        real = rw s′ z;
+        known = rw (e .1) (known-same rows steps b y d (take found queue) h k m);
+        real = rw (e .1) z;
         own =
             cells-other (ident rows steps) flags d (darts rows - (d + 1)) (known-old rows steps b y d (take found queue) h k m)
-            ∙ ap (λ (t : Bool). cond (t && eqb (getD flags d 0) 0) (d ∷ []) [] ++ cellsFrom (ident rows steps) flags (d + 1) (darts rows - (d + 1))) (sym (le-ltb found r f));
-      }
-  turned l′ a (new e o) w s =
-      let s′ : l′ ≡ search rows steps (darts rows - length (take found queue)) (length (take found queue)) (take found queue ++ (d ∷ [])) =
-      s ∙ ap (λ (i : ℕ). search rows steps (darts rows - i) i (take found queue ++ (d ∷ []))) (sym l-length) in
-      let f : found < r =
-      omega (
-        arith,
-        ap length s,
-        ext-length (search-ext rows steps (darts rows - found) found (take found queue ++ (d ∷ []))),
-        length-append (take found queue) (d ∷ []),
-        l-length,
-      ) in
-      let lt : (x : ℕ) → In x (take found queue) → x < darts rows = λ x m. subst (λ (i : ℕ). x < i) n-is (q .below x m) in
+            ∙ ap (λ (t : Bool). cond (t && eqb (getD flags d 0) 0) (d ∷ []) [] ++ cellsFrom (ident rows steps) flags (d + 1) (darts rows - (d + 1))) (sym (le-ltb found r (omega (arith, e .0))));
+      })
+      (λ u.
+      let o : In d (take found queue) → ⊥ = not-mem d (take found queue) u in
+      let e : d ≡ 0 → ⊥ = λ t. omega arith in
+      let j = g .new o in
       record {
-        known = rw s′ (known-more rows steps b y d (take found queue) h k e o (q .norep) lt z);
-        real = rw s′ (more-real rows steps b y d (take found queue) h k e o (q .norep) lt z);
+        known = known-more rows steps b y d (take found queue) h k e o _ (j .1);
+        real = more-real rows steps b y d (take found queue) h k e o _ (j .1) z;
         own =
             ⊎-elim
-            (λ u.
-            cells-own (ident rows steps) flags d (darts rows - (d + 1)) (eqb-true (getD flags d 0) 0 u) (known-new rows steps b y d (take found queue) h k e o)
-            ∙ ap (λ (t : Bool). cond (true && t) (d ∷ []) [] ++ cellsFrom (ident rows steps) flags (d + 1) (darts rows - (d + 1))) (sym u)
-            ∙ grew f)
-            (λ u.
-            cells-flags (ident rows steps) flags d (darts rows - (d + 1)) (eqb-false (getD flags d 0) 0 u)
-            ∙ ap (λ (t : Bool). cond (true && t) (d ∷ []) [] ++ cellsFrom (ident rows steps) flags (d + 1) (darts rows - (d + 1))) (sym u)
-            ∙ grew f)
+            (λ t.
+            cells-own (ident rows steps) flags d (darts rows - (d + 1)) (eqb-true (getD flags d 0) 0 t) (known-new rows steps b y d (take found queue) h k e o)
+            ∙ ap (λ (c : Bool). cond (true && c) (d ∷ []) [] ++ cellsFrom (ident rows steps) flags (d + 1) (darts rows - (d + 1))) (sym t)
+            ∙ grew (j .0))
+            (λ t.
+            cells-flags (ident rows steps) flags d (darts rows - (d + 1)) (eqb-false (getD flags d 0) 0 t)
+            ∙ ap (λ (c : Bool). cond (true && c) (d ∷ []) [] ++ cellsFrom (ident rows steps) flags (d + 1) (darts rows - (d + 1))) (sym t)
+            ∙ grew (j .0))
             (bool (eqb (getD flags d 0) 0));
-      }
+      })
+      (bool (mem d (take found queue)))
 
 module _ (rows steps flags marks₀ queue₀ out₀ : List ℕ) (b : Bounded rows) (y : Symmetric rows steps) (n-is : length marks₀ ≡ darts rows) where
   pub listing-starts : Queue marks₀ queue₀ 0 → Listing rows steps flags marks₀ queue₀ out₀ marks₀ queue₀ out₀ 0 0 1
@@ -150,13 +126,13 @@ module _ (rows steps flags marks₀ queue₀ out₀ : List ℕ) (b : Bounded row
       }
 
   module _ (marks queue out : List ℕ) (found count d : ℕ) (v : Listing rows steps flags marks₀ queue₀ out₀ marks queue out found count d) where
-    pub listing-turn : (marks′ queue′ out′ : List ℕ) (r c : ℕ) → d < darts rows → length marks′ ≡ length marks → length queue′ ≡ length queue → length out′ ≡ length out → Grown queue found (search rows steps (darts rows - found) found (add (take found queue) d)) marks′ queue′ r → Put (ltb found r && eqb (getD flags d 0) 0) d out count out′ c → Listing rows steps flags marks₀ queue₀ out₀ marks′ queue′ out′ r c (d + 1)
+    pub listing-closed : d < darts rows → Closed rows steps (take found queue)
+    listing-closed h = known-closed rows steps b y d (take found queue) h (v .known) (λ x m. omega (arith, v .held .below x m, v .marks-n, n-is))
+
+    pub listing-turn : (marks′ queue′ out′ : List ℕ) (r c : ℕ) → d < darts rows → length marks′ ≡ length marks → length queue′ ≡ length queue → length out′ ≡ length out → Grew rows steps d queue found marks′ queue′ r → Put (ltb found r && eqb (getD flags d 0) 0) d out count out′ c → Listing rows steps flags marks₀ queue₀ out₀ marks′ queue′ out′ r c (d + 1)
     listing-turn marks′ queue′ out′ r c h e-m e-q e-o g p =
-        let s : take r queue′ ≡ search rows steps (darts rows - found) found (add (take found queue) d) =
-        g .front in
         let t : Turned rows steps flags found d r (take r queue′) =
-        turned rows steps flags b y marks queue found d r h (v .some) (v .marks-n ∙ n-is) (v .held) (v .known) (v .real) (take r queue′) (add (take found queue) d) (added (take found queue) d)
-        (length-take-le r queue′ (g .queue .room)) s in
+        turned rows steps flags b y marks queue found d r h (v .some) (v .marks-n ∙ n-is) (v .held) (v .known) (v .real) marks′ queue′ g in
         let f : darts rows - d ≡ suc (darts rows - (d + 1)) = omega arith in
         record {
           marks-n = e-m ∙ v .marks-n;
@@ -165,7 +141,7 @@ module _ (rows steps flags marks₀ queue₀ out₀ : List ℕ) (b : Bounded row
           some = omega arith;
           upto = omega arith;
           few = omega (arith, v .few, p .one);
-          held = g .queue;
+          held = g .held;
           known = t .known;
           real = t .real;
           behind = g .back ∙ drop-more queue queue₀ found r (g .more) (v .behind);

@@ -1,7 +1,5 @@
--- A closed list of darts, widened by the search from one dart more: it then holds what it held and what the dart reaches, and is closed again.
---   widened-only     it holds nothing else
---   widened-old, widened-new   it holds what it held, and the dart
---   widened-closed   it is closed
+-- A closed list of darts, widened by the search from one dart more.
+--   widened   the dart's cell has joined the list
 -- Assumes nothing.
 use Prim.Native.Nat.{ℕ, _+_, _-_, _≤_, _<_}
 use native.Mathlib.Omega.{arith}
@@ -15,9 +13,10 @@ use Rattle.orbits.specs.Steps.{image}
 use Rattle.orbits.specs.Search.{In, NoRep, search, Reach, Bounded}
 use Rattle.orbits.proofs.Lists.{in-at, norep-snoc}
 use Rattle.orbits.proofs.SearchLaws.{ext-refl, ext-in, Passes}
-use Rattle.orbits.proofs.OrbitLaws.{Has, State, Finished, finished, image-below}
+use Rattle.orbits.proofs.OrbitLaws.{State, Finished, finished, image-below, closed-reach}
+use Rattle.lists.specs.Joins.{Closed, Joined}
 
-module _ (rows steps : List ℕ) (b : Bounded rows) (d : ℕ) (l : List ℕ) (h : d < darts rows) (out : In d l → ⊥) (norep : NoRep l) (lt : (x : ℕ) → In x l → x < darts rows) (closed : (x : ℕ) → In x l → Has rows steps l x) where
+module _ (rows steps : List ℕ) (b : Bounded rows) (d : ℕ) (l : List ℕ) (h : d < darts rows) (out : In d l → ⊥) (norep : NoRep l) (lt : (x : ℕ) → In x l → x < darts rows) (closed : Closed rows steps l) where
   -- what the search from d on may add
   P : ℕ → Type 0
   P x = (In x l ⊎ Reach rows steps d x) × (x < darts rows)
@@ -26,7 +25,7 @@ module _ (rows steps : List ℕ) (b : Bounded rows) (d : ℕ) (l : List ℕ) (h 
   unfolding P
   passes x p s m z = (
     ⊎-elim
-        (λ q. ⊎-elim (λ e. absurd (z e)) inl (closed x q s m))
+        (λ q. ⊎-elim (λ e. absurd (z e)) inl (closed .image-in x q s m))
         (λ q. inr (ReflTransGenᴰ·tail q (record { by = s; listed = m; leads = refl; real = z })))
         (p .0),
     image-below rows b s x,
@@ -49,7 +48,7 @@ module _ (rows steps : List ℕ) (b : Bounded rows) (d : ℕ) (l : List ℕ) (h 
         starts = ext-refl (l ++ (d ∷ []));
         closed = λ i q s m.
             rw (List·getD-append l (d ∷ []) 0 i q)
-            (⊎-elim inl (λ t. inr (Memᴰ·append-left (d ∷ []) t)) (closed (getD l i 0) (in-at l i q) s m));
+            (⊎-elim inl (λ t. inr (Memᴰ·append-left (d ∷ []) t)) (closed .image-in (getD l i 0) (in-at l i q) s m));
       }
 
   abbrev pub wide : List ℕ
@@ -59,15 +58,11 @@ module _ (rows steps : List ℕ) (b : Bounded rows) (d : ℕ) (l : List ℕ) (h 
   unfolding P
   fin = finished rows steps P passes (l ++ (d ∷ [])) (darts rows) (λ x p. p .1) (darts rows - length l) (length l) (l ++ (d ∷ [])) (omega arith) start
 
-  pub widened-only : (x : ℕ) → In x wide → In x l ⊎ Reach rows steps d x
+  pub widened : Joined rows steps d l wide
   unfolding P
-  widened-only x m = fin .good .all x m .0
-
-  pub widened-old : (x : ℕ) → In x l → In x wide
-  widened-old x m = ext-in (fin .starts) (Memᴰ·append-left (d ∷ []) m)
-
-  pub widened-new : In d wide
-  widened-new = ext-in (fin .starts) (Memᴰ·append-right l (List·Memᴰ·head refl))
-
-  pub widened-closed : (x : ℕ) → In x wide → Has rows steps wide x
-  widened-closed = fin .closed
+  widened =
+      record {
+        only = λ x m. fin .good .all x m .0;
+        old = λ x m. ext-in (fin .starts) (Memᴰ·append-left (d ∷ []) m);
+        every = λ x r. closed-reach rows steps wide (fin .closed) (ext-in (fin .starts) (Memᴰ·append-right l (List·Memᴰ·head refl))) r;
+      }

@@ -1,4 +1,5 @@
 // Cell lists of a class whose steps lead back: each orbit is visited once, so that a list takes time linear in the darts. Ports `iter_vertices`, `iter_edges` and `iter_volumes` of dim3/basic_ops.rs.
+use betas::betas::beta_at;
 use orbits::scratch::wipe_marks;
 use orbits::scratch::wipe_queue;
 use orbits::search::flood;
@@ -10,14 +11,35 @@ ghost use lib.Dec.{ltb, eqb};
 ghost use Prim.Native.Nat.{ℕ, _-_, _<_, _≤_};
 ghost use lib.ListN.{length, take};
 ghost use Rattle.betas.specs.Betas.{darts};
-ghost use Rattle.orbits.specs.Search.{add, search, Symmetric};
-ghost use Rattle.orbits.specs.Loans.{Fit, Queue, Grown, Zero, Listed};
+ghost use Rattle.orbits.specs.Steps.{edge};
+ghost use Rattle.orbits.specs.Search.{In, Symmetric};
+ghost use Rattle.orbits.specs.Loans.{Fit, Scratch, Queue, Grown, Zero, Listed};
 ghost use Rattle.orbits.specs.Calls.{wiped};
 ghost use Rattle.orbits.specs.Visits.{stepsBy};
 ghost use Rattle.lists.specs.CellLists.{cellList, Put};
+ghost use Rattle.lists.specs.Joins.{Closed, Grew, Arm};
 
-// Puts d into the queue, unless it is there, with all that the steps reach from it.
-pub fn grow(
+// Follows beta 2 and beta 3 in turn from d, beta i first, and puts what it meets behind the queue, up to a null dart or one that is there.
+fn alternate(rows: &[u32], marks: &mut [u8], queue: &mut [u32], k: usize, d: u32, i: u32) -> usize
+    requires { ⌜ Scratch (now rows) (now marks) (now queue) × Queue (now marks) (now queue) k × In d (take k (now queue)) × In i edge ⌝ }
+    ensures { λ r. ⌜ Grown (now (queue .entry)) k (take r (now (queue .exit))) (now (marks .exit)) (now (queue .exit)) r × Arm (now (rows .entry)) i d (take k (now (queue .entry))) (take r (now (queue .exit))) ⌝ }
+{
+    let mut count = k;
+    let mut x = d;
+    let mut by = i;
+    loop {
+        x = beta_at(rows, by, x);
+        let more = push(marks, queue, count, x);
+        if more == count {
+            return count;
+        }
+        count = more;
+        by = 5 - by;
+    }
+}
+
+// Puts d into the queue, unless it is there, with all that the steps reach from it. An edge is one round or one chain of beta 2 and beta 3 in turn, so that no dart of it is met twice.
+fn grow(
     rows: &[u32],
     written: Written,
     steps: &[u8],
@@ -26,14 +48,20 @@ pub fn grow(
     found: usize,
     d: u32,
 ) -> usize
-    requires { ⌜ Fit (now rows) (now steps) (now marks) (now queue) × Queue (now marks) (now queue) found × (d < darts (now rows)) × (stepsBy written (now steps) ≡ now steps) ⌝ }
-    ensures { λ r. ⌜ Grown (now (queue .entry)) found (search (now (rows .entry)) (now (steps .entry)) (darts (now (rows .entry)) - found) found (add (take found (now (queue .entry))) d)) (now (marks .exit)) (now (queue .exit)) r ⌝ }
+    requires { ⌜ Fit (now rows) (now steps) (now marks) (now queue) × Queue (now marks) (now queue) found × (0 < d) × (d < darts (now rows)) × (stepsBy written (now steps) ≡ now steps) × Closed (now rows) (now steps) (take found (now queue)) ⌝ }
+    ensures { λ r. ⌜ Grew (now (rows .entry)) (now (steps .entry)) d (now (queue .entry)) found (now (marks .exit)) (now (queue .exit)) r ⌝ }
 {
     let k = push(marks, queue, found, d);
     if k == found {
         return found;
     }
-    flood(rows, written, steps, marks, queue, found, k)
+    match written {
+        Written::Edge => {
+            let a = alternate(rows, marks, queue, k, d, 2);
+            alternate(rows, marks, queue, a, d, 3)
+        }
+        _ => flood(rows, written, steps, marks, queue, found, k),
+    }
 }
 
 // Puts x behind the first count places, where the queue has grown and the dart is not unused.

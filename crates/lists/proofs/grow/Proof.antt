@@ -1,7 +1,15 @@
--- `grow` meets its contract: a push and a flood, or a push of nothing. Assumes nothing.
+-- `grow` meets its contract: a push, and then both arms of an edge, or the search. Assumes nothing.
 use native.Mathlib.Omega.{arith}
+use mathlib.Core.Path.{_≡_, refl, sym, ap, _∙_, subst}
+use mathlib.Core.List.{List, List·Memᴰ·head, List·Memᴰ·tail}
+use Prim.Native.Nat.{ℕ}
+use Rattle.betas.specs.Betas.{darts}
+use Rattle.orbits.specs.declared.visits.Written.{Written}
+use Rattle.orbits.specs.declared.visits.Written.the-variants.{Edge}
+use Rattle.orbits.specs.Visits.{stepsBy}
+use Rattle.orbits.proofs.ScratchLaws.{fit-scratch, scratch-same}
 use Rattle.orbits.proofs.TurnLaws.{fit-same}
-use Rattle.lists.proofs.ListingLaws.{grown-both, grown-none}
+use Rattle.lists.proofs.GrowLaws.{grew-same, entered, grew-flood, grew-edge}
 use borrow.Author.Needs.{needs}
 use Rattle.lists.proofs.grow.Statement.{statement}
 use Rattle.lists.proofs.grow.Tie as tie
@@ -9,7 +17,7 @@ use Rattle.lists.proofs.grow.Tie as tie
 push-requires : tie.Need-push-requires
 push-requires c κs =
     let s = c .before .before .before .before .before .before in
-    (s .pre .1, omega (arith, s .pre .0 .marks-n, s .pre .2), omega (arith, s .pre .0 .marks-n, s .pre .0 .out-n))
+    (s .pre .1, omega (arith, s .pre .0 .marks-n, s .pre .3), omega (arith, s .pre .0 .marks-n, s .pre .0 .out-n))
 
 same-length : tie.Need-same-length
 same-length c = search needs
@@ -18,15 +26,37 @@ same-length-2 : tie.Need-same-length-2
 same-length-2 c = search needs
 
 returns : tie.Need-returns
-returns c =
-    let s = c .before .before .before .before .before .before .before .before .before .before .before .before in
-    grown-none (s .args .rows .now) (s .args .steps .now) _ _ _ _ _ _ (c .before .before .before .before .before .push .ensures) (c .if1 .taken)
+returns c = grew-same _ _ _ (c .before .before .before .before .before .before .before .before .before .before .before .before .pre .2) _ _ (c .before .before .before .before .before .before .before .before .before .before .before .before .pre .1 .room) _ _ _ (c .before .before .before .before .before .push .ensures) (c .if1 .taken)
+
+enum-told : tie.Need-enum-told
+enum-told c = search needs
+
+alternate-requires : tie.Need-alternate-requires
+alternate-requires c κs =
+    let s = c .before .before .before .before .before .before .before .before .before .before .before .before .before .before .before .before in
+    let p = c .before .before .before .before .before .before .before .before .before .push in (
+      scratch-same _ (s .args .marks .now) (s .args .queue .now) _ _ (fit-scratch (s .pre .0)) (p .kept .0) (p .kept .1 .0),
+      p .ensures .queue,
+      entered (s .args .rows .now) (s .args .steps .now) _ (s .pre .2) _ _ (s .pre .1 .room) _ _ _ (p .ensures) (c .before .before .before .before .if1 .left),
+      List·Memᴰ·head refl,
+    )
+
+alternate-requires-2 : tie.Need-alternate-requires-2
+alternate-requires-2 c κs =
+    let s = c .before .before .before .before .before .before .before .before .before .before .before .before .before .before .before .before .before .before .before .before .before .before .before in
+    let p = c .before .before .before .before .before .before .before .before .before .before .before .before .before .before .before .before .push in
+    let a = c .before .before .before .before .before .before .alternate in (
+      scratch-same _ (s .args .marks .now) (s .args .queue .now) _ _ (fit-scratch (s .pre .0)) (a .kept .1 .0 ∙ p .kept .0) (a .kept .1 .1 .0 ∙ p .kept .1 .0),
+      a .ensures .0 .queue,
+      a .ensures .1 .old _ (entered (s .args .rows .now) (s .args .steps .now) _ (s .pre .2) _ _ (s .pre .1 .room) _ _ _ (p .ensures) (c .before .before .before .before .before .before .before .before .before .before .before .if1 .left)),
+      List·Memᴰ·tail (List·Memᴰ·head refl),
+    )
 
 flood-requires : tie.Need-flood-requires
 flood-requires c κs =
-    let s = c .before .before .before .before .before .before .before .before .before .before .before .before .before .before in
-    let p = c .before .before .before .before .before .before .before .push in
-    (fit-same _ _ (s .args .marks .now) (s .args .queue .now) _ _ (s .pre .0) (p .kept .0) (p .kept .1 .0), p .ensures .queue, p .ensures .more, s .pre .3)
+    let s = c .before .before .before .before .before .before .before .before .before .before .before .before .before .before .before in
+    let p = c .before .before .before .before .before .before .before .before .push in
+    (fit-same _ _ (s .args .marks .now) (s .args .queue .now) _ _ (s .pre .0) (p .kept .0) (p .kept .1 .0), p .ensures .queue, p .ensures .more, s .pre .4)
 
 same-length-3 : tie.Need-same-length-3
 same-length-3 c = search needs
@@ -36,11 +66,22 @@ same-length-4 c = search needs
 
 returns-2 : tie.Need-returns-2
 returns-2 c =
-    let s = c .before .before .before .before .before .before .before .before .before .before .before .before .before .before .before .before .before .before .before in
-    let p = c .before .before .before .before .before .before .before .before .before .before .before .before .push in
-    let f = c .before .before .before .before .flood in
-    let g = grown-both (s .args .queue .now) (s .args .found) _ _ _ _ _ _ _ _ (p .ensures) (f .ensures) in
-    rw (← p .ensures .front) g
+    let s = c .before .before .before .before .before .before .before .before .before .before .before .before .before .before .before .before .before .before .before .before .before .before .before .before .before .before .before .before in
+    let a = c .before .before .before .before .before .before .before .before .before .before .before .alternate in
+    let b = c .before .before .before .before .alternate2 in
+    let e = ap (λ (w : Written). stepsBy w (s .args .steps .now)) (sym (c .before .before .before .before .before .before .before .before .before .before .before .before .before .before .enum-told .given .1)) ∙ s .pre .4 in
+    grew-edge _ _ _ (s .pre .2) _ _ (s .pre .1 .room) _ _ _ (c .before .before .before .before .before .before .before .before .before .before .before .before .before .before .before .before .before .before .before .before .before .push .ensures) (c .before .before .before .before .before .before .before .before .before .before .before .before .before .before .before .before .if1 .left) (s .pre .5) e _ _ _ (a .ensures .0) (a .ensures .1) _ _ _ (b .ensures .0) (b .ensures .1)
+
+same-length-5 : tie.Need-same-length-5
+same-length-5 c = search needs
+
+same-length-6 : tie.Need-same-length-6
+same-length-6 c = search needs
+
+returns-3 : tie.Need-returns-3
+returns-3 c =
+    let s = c .before .before .before .before .before .before .before .before .before .before .before .before .before .before .before .before .before .before .before .before in
+    grew-flood _ _ _ (s .pre .2) _ _ (s .pre .1 .room) _ _ _ (c .before .before .before .before .before .before .before .before .before .before .before .before .before .push .ensures) (c .before .before .before .before .before .before .before .before .if1 .left) (s .pre .5) (s .pre .0 .formed .below) (s .pre .3) _ (s .pre .0 .marks-n) (s .pre .1) _ _ _ (c .before .before .before .before .flood .ensures)
 
 pub grow-spec : {M : Type 1} → statement M
 grow-spec =
@@ -50,7 +91,13 @@ grow-spec =
     same-length
     same-length-2
     returns
+    enum-told
+    alternate-requires
+    alternate-requires-2
     flood-requires
     same-length-3
     same-length-4
-    returns-2)
+    returns-2
+    same-length-5
+    same-length-6
+    returns-3)

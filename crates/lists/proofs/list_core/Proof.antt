@@ -8,7 +8,7 @@ use Rattle.betas.specs.Betas.{darts}
 use Rattle.orbits.specs.Calls.{wiped}
 use Rattle.orbits.proofs.QueueLaws.{queue-none, queue-n}
 use Rattle.orbits.proofs.TurnLaws.{fit-same}
-use Rattle.lists.proofs.ListingLaws.{Listing, listing-starts, listing-turn, listing-ends, marks-same, queue-wiped}
+use Rattle.lists.proofs.ListingLaws.{Listing, listing-starts, listing-closed, listing-turn, listing-ends, marks-same, queue-wiped}
 use Rattle.lists.proofs.list_core.Statement.{statement}
 use Rattle.lists.proofs.list_core.Tie as tie
 
@@ -32,8 +32,10 @@ grow-requires c κs =
     let s = c .before .before .before .before .before .before .before .before .before .before in (
       fit-same _ _ (s .args .marks .now) (s .args .queue .now) _ _ (s .pre .0) (l .inv .marks-n) (l .inv .queue-same),
       l .inv .held,
+      l .inv .some,
       omega (arith, c .before .before .loop-test .taken, s .pre .0 .marks-n),
       s .pre .5,
+      listing-closed _ _ (s .args .flags .now) (s .args .marks .now) (s .args .queue .now) (s .args .output .now) (s .pre .0 .formed .below) (s .pre .1) (s .pre .0 .marks-n) _ _ _ _ _ _ (l .inv) (omega (arith, c .before .before .loop-test .taken, s .pre .0 .marks-n)),
     )
 
 shared-slice-read-put : tie.Need-shared-slice-read-put Inv-loop μ-loop

@@ -1,0 +1,82 @@
+-- What the queue of a list holds after a dart: a push, and then the dart's cell.
+--   grew-same     the dart was there
+--   entered       it was not, and is the queue's last now
+--   grew-flood    then its cell has joined the queue by the search
+--   grew-edge     or, of an edge, by both arms
+-- Assumes nothing.
+use Prim.Native.Nat.{ℕ, _+_, _-_, _≤_, _<_}
+use native.Mathlib.Nat.{le-refl, le-trans}
+use native.Mathlib.Omega.{arith}
+use mathlib.Core.Path.{_≡_, refl, sym, ap, _∙_, subst}
+use mathlib.Core.Logic.{_⊎_, ⊎-elim}
+use mathlib.Core.List.{List, [], _∷_, _++_, List·Memᴰ·head, Memᴰ·append-right}
+use lib.ListN.{length, take, drop}
+use lib.Seq.{length-take-le}
+use Rattle.betas.specs.Betas.{darts}
+use Rattle.orbits.specs.Steps.{edge}
+use Rattle.orbits.specs.Search.{In, add, search, Bounded}
+use Rattle.orbits.specs.Loans.{Queue, Grown}
+use Rattle.orbits.proofs.TurnLaws.{drop-more}
+use Rattle.lists.specs.Joins.{Closed, Joined, Grew, Arm}
+use Rattle.lists.proofs.PushLaws.{Stays, Enters, pushed}
+use Rattle.lists.proofs.WidenLaws.{widened}
+use Rattle.lists.proofs.ArmLaws.{edge-joined}
+
+pub grown-both : (q : List ℕ) (f : ℕ) (l m₁ q₁ : List ℕ) (k : ℕ) (t m₂ q₂ : List ℕ) (r : ℕ) → Grown q f l m₁ q₁ k → Grown q₁ k t m₂ q₂ r → Grown q f t m₂ q₂ r
+grown-both q f l m₁ q₁ k t m₂ q₂ r a b =
+    record {
+      front = b .front;
+      back = b .back ∙ drop-more q₁ q k r (b .more) (a .back);
+      more = le-trans (a .more) (b .more);
+      queue = b .queue;
+    }
+
+module _ (rows steps : List ℕ) (d : ℕ) (some : 0 < d) (queue : List ℕ) (found : ℕ) (room : found ≤ length queue) (m₁ q₁ : List ℕ) (k : ℕ) (p : Grown queue found (add (take found queue) d) m₁ q₁ k) where
+  pub grew-same : k ≡ found → Grew rows steps d queue found m₁ q₁ found
+  grew-same e =
+      ⊎-elim
+      (λ (s : Stays queue found d q₁ k).
+      let h = subst (λ (c : ℕ). Grown queue found (add (take found queue) d) m₁ q₁ c) e p in
+      record {
+        more = le-refl found;
+        held = h .queue;
+        back = h .back;
+        same = λ m. (refl, ap (λ (c : ℕ). take c q₁) (sym e) ∙ s .same);
+        new = λ o. absurd (⊎-elim (λ z. omega arith) o (s .why));
+      })
+      (λ s. absurd (omega (arith, s .more)))
+      (pushed queue found d m₁ q₁ k room p)
+
+  module _ (n : k ≡ found → ⊥) where
+    enters : Enters queue found d q₁ k
+    enters = ⊎-elim (λ s. absurd (n (s .none))) (λ s. s) (pushed queue found d m₁ q₁ k room p)
+
+    pub entered : In d (take k q₁)
+    entered = rw (enters .last) (Memᴰ·append-right (take found queue) (List·Memᴰ·head refl))
+
+    grew-new : (t m₂ q₂ : List ℕ) (r : ℕ) → Grown q₁ k t m₂ q₂ r → Joined rows steps d (take found queue) t → Grew rows steps d queue found m₂ q₂ r
+    grew-new t m₂ q₂ r g j =
+        record {
+          more = le-trans (p .more) (g .more);
+          held = g .queue;
+          back = g .back ∙ drop-more q₁ queue k r (g .more) (p .back);
+          same = λ m. absurd (enters .out m);
+          new = λ o. (omega (arith, enters .more, g .more), rw (g .front) j);
+        }
+
+    module _ (c : Closed rows steps (take found queue)) where
+      pub grew-flood : Bounded rows → d < darts rows → (marks : List ℕ) → length marks ≡ darts rows → Queue marks queue found → (m₂ q₂ : List ℕ) (r : ℕ) →
+          Grown q₁ k (search rows steps (darts rows - found) found (take k q₁)) m₂ q₂ r → Grew rows steps d queue found m₂ q₂ r
+      grew-flood b h marks n-is q m₂ q₂ r g =
+          let l : List ℕ = take found queue in
+          let e : search rows steps (darts rows - found) found (take k q₁) ≡ search rows steps (darts rows - length l) (length l) (l ++ (d ∷ [])) =
+          ap (search rows steps (darts rows - found) found) (enters .last)
+          ∙ ap (λ (i : ℕ). search rows steps (darts rows - i) i (l ++ (d ∷ []))) (sym (length-take-le found queue (q .room))) in
+          grew-new _ m₂ q₂ r g
+          (rw e (widened rows steps b d l h (enters .out) (q .norep) (λ x m. subst (λ (i : ℕ). x < i) n-is (q .below x m)) c))
+
+      pub grew-edge : edge ≡ steps → (m₂ q₂ : List ℕ) (a : ℕ) → Grown q₁ k (take a q₂) m₂ q₂ a → Arm rows 2 d (take k q₁) (take a q₂) →
+          (m₃ q₃ : List ℕ) (r : ℕ) → Grown q₂ a (take r q₃) m₃ q₃ r → Arm rows 3 d (take a q₂) (take r q₃) → Grew rows steps d queue found m₃ q₃ r
+      grew-edge e m₂ q₂ a g two m₃ q₃ r h three =
+          let j = edge-joined rows d (take found queue) _ _ _ (subst (λ (s : List ℕ). Closed rows s (take found queue)) (sym e) c) (enters .last) two three in
+          grew-new _ m₃ q₃ r (grown-both _ _ _ _ _ _ _ _ _ _ g h) (subst (λ (s : List ℕ). Joined rows s d (take found queue) (take r q₃)) e j)

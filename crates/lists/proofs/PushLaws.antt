@@ -1,0 +1,46 @@
+-- A push adds nothing to the queue, or its dart.
+--   Stays    the dart is null or there, and the queue as it was
+--   Enters   it is neither, and now the queue's last
+--   pushed   one of the two
+-- Assumes nothing.
+use Prim.Native.Nat.{ℕ, _+_, _≤_, _<_}
+use native.Mathlib.Omega.{arith}
+use mathlib.Core.Path.{_≡_, sym, ap, _∙_}
+use mathlib.Core.Logic.{_⊎_, inl, inr}
+use mathlib.Core.List.{List, [], _∷_, _++_}
+use lib.ListN.{length, take, length-append}
+use lib.Seq.{length-take-le}
+use Rattle.orbits.specs.Search.{In, add}
+use Rattle.orbits.specs.Loans.{Grown}
+use Rattle.orbits.proofs.SearchLaws.{Added, null, old, new, added}
+
+pub record Stays (queue : List ℕ) (k x : ℕ) (queue′ : List ℕ) (r : ℕ) : Type 0 where
+  pub why : (x ≡ 0) ⊎ In x (take k queue)
+  pub same : take r queue′ ≡ take k queue
+  pub none : r ≡ k
+
+pub record Enters (queue : List ℕ) (k x : ℕ) (queue′ : List ℕ) (r : ℕ) : Type 0 where
+  pub real : x ≡ 0 → ⊥
+  pub out : In x (take k queue) → ⊥
+  pub last : take r queue′ ≡ take k queue ++ (x ∷ [])
+  pub more : k < r
+
+module _ (queue : List ℕ) (k x : ℕ) (marks′ queue′ : List ℕ) (r : ℕ) (room : k ≤ length queue) (g : Grown queue k (add (take k queue) x) marks′ queue′ r) where
+  stays : (x ≡ 0) ⊎ In x (take k queue) → take r queue′ ≡ take k queue → Stays queue k x queue′ r
+  stays w e =
+      record { why = w; same = e; none = sym (length-take-le r queue′ (g .queue .room)) ∙ ap length e ∙ length-take-le k queue room }
+
+  pub pushed : Stays queue k x queue′ r ⊎ Enters queue k x queue′ r
+  pushed = go (add (take k queue) x) (added (take k queue) x) (g .front)
+    where
+      go : (m : List ℕ) → Added (take k queue) x m → take r queue′ ≡ m → Stays queue k x queue′ r ⊎ Enters queue k x queue′ r
+      go m (null z) e = inl (stays (inl z) e)
+      go m (old i) e = inl (stays (inr i) e)
+      go m (new z o) e =
+          inr
+          (record {
+            real = z;
+            out = o;
+            last = e;
+            more = omega (arith, length-take-le r queue′ (g .queue .room), ap length e, length-append (take k queue) (x ∷ []), length-take-le k queue room);
+          })

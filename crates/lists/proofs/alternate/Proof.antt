@@ -1,0 +1,50 @@
+-- `alternate` meets its contract, by the invariant `Following`. Assumes nothing.
+use mathlib.Core.Path.{_≡_, sym, ap, _∙_, subst}
+use Prim.Native.Nat.{ℕ, _-_, _≤_, _<_}
+use native.Mathlib.Omega.{arith}
+use lib.ListN.{length, take}
+use Rattle.betas.specs.Betas.{darts}
+use Rattle.orbits.proofs.QueueLaws.{queue-n}
+use Rattle.lists.proofs.ArmLaws.{Following, following-starts, following-turn, following-ends, edge-less}
+use Rattle.lists.proofs.alternate.Statement.{statement}
+use Rattle.lists.proofs.alternate.Tie as tie
+
+abbrev Inv-loop : tie.InvT-loop
+Inv-loop rows marks₀ queue₀ k d i count₀ x₀ by₀ marks queue count x by = (length marks₀ ≡ darts rows) × Following rows i d marks₀ queue₀ k marks queue count x by
+
+abbrev μ-loop : tie.MeasureT-loop
+μ-loop rows marks₀ queue₀ k d i count₀ x₀ by₀ marks queue count x by = darts rows - count
+
+loop-holds : tie.Need-loop-holds Inv-loop μ-loop
+loop-holds c = (c .before .before .before .pre .0 .marks-n, following-starts _ (c .before .before .before .pre .0 .formed) _ _ _ _ _ (c .before .before .before .pre .1) (c .before .before .before .pre .3) (c .before .before .before .pre .2))
+
+beta-at-requires : tie.Need-beta-at-requires Inv-loop μ-loop
+beta-at-requires c κs = 
+    let v = c .loop .inv .1 in
+    omega (arith, v .held .below _ (v .here), v .marks-n, c .before .before .before .before .pre .0 .marks-n, c .before .before .before .before .pre .0 .formed .sized .whole, edge-less (v .by-edge))
+
+push-requires : tie.Need-push-requires Inv-loop μ-loop
+push-requires c κs =
+    let v = c .before .before .before .loop .inv .1 in
+    (v .held, rw (c .before .before .beta-at .ensures) (omega (arith, v .marks-n, c .before .before .before .before .before .before .before .pre .0 .marks-n, c .before .before .before .before .before .before .before .pre .0 .formed .below (c .before .before .before .loop .by) (c .before .before .before .loop .x))), omega (arith, v .marks-n, v .queue-same, c .before .before .before .before .before .before .before .pre .0 .marks-n, c .before .before .before .before .before .before .before .pre .0 .queue-n))
+
+same-length : tie.Need-same-length Inv-loop μ-loop
+same-length c = c .before .before .before .before .before .push .kept .0 ∙ c .before .before .before .before .before .before .before .before .before .loop .inv .1 .marks-n
+
+same-length-2 : tie.Need-same-length-2 Inv-loop μ-loop
+same-length-2 c = c .before .before .before .before .before .push .kept .1 .0 ∙ c .before .before .before .before .before .before .before .before .before .loop .inv .1 .queue-same
+
+returns : tie.Need-returns Inv-loop μ-loop
+returns c = following-ends _ (c .before .before .before .before .before .before .before .before .before .before .before .before .before .pre .0 .formed) _ _ _ _ _ _ _ _ _ _ (c .before .before .before .before .before .before .before .before .before .loop .inv .1) _ (c .before .before .before .before .before .before .before .before .beta-at .ensures) _ _ _ (c .before .before .before .before .before .push .kept .0) (c .before .before .before .before .before .push .kept .1 .0) (c .before .before .before .before .before .push .ensures) (c .if1 .taken)
+
+sub-by : tie.Need-sub-by Inv-loop μ-loop
+sub-by c = omega (arith, edge-less (c .before .before .before .before .before .before .before .before .before .loop .inv .1 .by-edge))
+
+loop-less : tie.Need-loop-less Inv-loop μ-loop
+loop-less c = omega (arith, c .before .before .before .before .before .push .ensures .more, c .if1 .left, queue-n _ _ _ (c .before .before .before .before .before .push .ensures .queue), c .before .before .before .before .before .push .kept .0, c .before .before .before .before .before .before .before .before .before .loop .inv .1 .marks-n, c .before .before .before .before .before .before .before .before .before .loop .inv .0)
+
+loop-again : tie.Need-loop-again Inv-loop μ-loop
+loop-again c = (c .before .before .before .before .before .before .before .before .before .loop .inv .0, following-turn _ (c .before .before .before .before .before .before .before .before .before .before .before .before .before .pre .0 .formed) _ _ _ _ _ _ _ _ _ _ (c .before .before .before .before .before .before .before .before .before .loop .inv .1) _ (c .before .before .before .before .before .before .before .before .beta-at .ensures) _ _ _ (c .before .before .before .before .before .push .kept .0) (c .before .before .before .before .before .push .kept .1 .0) (c .before .before .before .before .before .push .ensures) (c .if1 .left) _ (omega arith))
+
+pub alternate-spec : {M : Type 1} → statement M
+alternate-spec = tie.close (tie.spec Inv-loop μ-loop loop-holds beta-at-requires push-requires same-length same-length-2 returns sub-by loop-less loop-again)

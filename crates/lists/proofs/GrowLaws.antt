@@ -3,6 +3,7 @@
 --   entered       it was not, and is the queue's last now
 --   grew-flood    then its cell has joined the queue by the search
 --   grew-edge     or, of an edge, by both arms
+--   grew-forward, grew-again   or, of a volume, by beta 1 and beta 2 where no chain ends, and else by all its steps after these
 -- Assumes nothing.
 use Prim.Native.Nat.{ℕ, _+_, _-_, _≤_, _<_}
 use native.Mathlib.Nat.{le-refl, le-trans}
@@ -13,23 +14,16 @@ use mathlib.Core.List.{List, [], _∷_, _++_, List·Memᴰ·head, Memᴰ·append
 use lib.ListN.{length, take, drop}
 use lib.Seq.{length-take-le}
 use Rattle.betas.specs.Betas.{darts}
-use Rattle.orbits.specs.Steps.{edge}
+use Rattle.betas.specs.Maps.{WellFormed}
+use Rattle.orbits.specs.Steps.{edge, volume, volumeLinear}
 use Rattle.orbits.specs.Search.{In, add, search, Bounded}
 use Rattle.orbits.specs.Loans.{Queue, Grown}
 use Rattle.orbits.proofs.TurnLaws.{drop-more}
-use Rattle.lists.specs.Joins.{Closed, Joined, Grew, Arm}
-use Rattle.lists.proofs.PushLaws.{Stays, Enters, pushed}
-use Rattle.lists.proofs.WidenLaws.{widened}
+use Rattle.lists.specs.Joins.{Closed, Joined, Grew, Onward, Arm}
+use Rattle.lists.proofs.PushLaws.{grown-both, Stays, Enters, pushed}
+use Rattle.lists.proofs.WidenLaws.{Seeded, Spread, seeded-one, spread, spread-joined}
+use Rattle.lists.proofs.VolumeLaws.{linear-closed, linear-seeded, linear-spread}
 use Rattle.lists.proofs.ArmLaws.{edge-joined}
-
-pub grown-both : (q : List ℕ) (f : ℕ) (l m₁ q₁ : List ℕ) (k : ℕ) (t m₂ q₂ : List ℕ) (r : ℕ) → Grown q f l m₁ q₁ k → Grown q₁ k t m₂ q₂ r → Grown q f t m₂ q₂ r
-grown-both q f l m₁ q₁ k t m₂ q₂ r a b =
-    record {
-      front = b .front;
-      back = b .back ∙ drop-more q₁ q k r (b .more) (a .back);
-      more = le-trans (a .more) (b .more);
-      queue = b .queue;
-    }
 
 module _ (rows steps : List ℕ) (d : ℕ) (some : 0 < d) (queue : List ℕ) (found : ℕ) (room : found ≤ length queue) (m₁ q₁ : List ℕ) (k : ℕ) (p : Grown queue found (add (take found queue) d) m₁ q₁ k) where
   pub grew-same : k ≡ found → Grew rows steps d queue found m₁ q₁ found
@@ -65,15 +59,38 @@ module _ (rows steps : List ℕ) (d : ℕ) (some : 0 < d) (queue : List ℕ) (fo
         }
 
     module _ (c : Closed rows steps (take found queue)) where
-      pub grew-flood : Bounded rows → d < darts rows → (marks : List ℕ) → length marks ≡ darts rows → Queue marks queue found → (m₂ q₂ : List ℕ) (r : ℕ) →
-          Grown q₁ k (search rows steps (darts rows - found) found (take k q₁)) m₂ q₂ r → Grew rows steps d queue found m₂ q₂ r
-      grew-flood b h marks n-is q m₂ q₂ r g =
-          let l : List ℕ = take found queue in
-          let e : search rows steps (darts rows - found) found (take k q₁) ≡ search rows steps (darts rows - length l) (length l) (l ++ (d ∷ [])) =
-          ap (search rows steps (darts rows - found) found) (enters .last)
-          ∙ ap (λ (i : ℕ). search rows steps (darts rows - i) i (l ++ (d ∷ []))) (sym (length-take-le found queue (q .room))) in
-          grew-new _ m₂ q₂ r g
-          (rw e (widened rows steps b d l h (enters .out) (q .norep) (λ x m. subst (λ (i : ℕ). x < i) n-is (q .below x m)) c))
+      abbrev l : List ℕ
+      l = take found queue
+
+      module _ (b : Bounded rows) (h : d < darts rows) (marks : List ℕ) (n-is : length marks ≡ darts rows) (q : Queue marks queue found) where
+        -- the places of a search from found on
+        from-found : (s t : List ℕ) → search rows s (darts rows - found) found t ≡ search rows s (darts rows - length l) (length l) t
+        from-found s t = ap (λ (i : ℕ). search rows s (darts rows - i) i t) (sym (length-take-le found queue (q .room)))
+
+        begins : (s : List ℕ) → Seeded rows s d l (take k q₁)
+        begins s = rw (enters .last) (seeded-one rows s d l h (enters .out) (q .norep) (λ x m. subst (λ (i : ℕ). x < i) n-is (q .below x m)))
+
+        pub grew-flood : (m₂ q₂ : List ℕ) (r : ℕ) → Grown q₁ k (search rows steps (darts rows - found) found (take k q₁)) m₂ q₂ r → Grew rows steps d queue found m₂ q₂ r
+        grew-flood m₂ q₂ r g = grew-new _ m₂ q₂ r g (rw (from-found steps (take k q₁)) (spread-joined rows steps d l _ (spread rows steps d l b c _ (begins steps))))
+
+        module _ (w : WellFormed rows) (e : volume ≡ steps) (m₂ q₂ : List ℕ) (t : ℕ) (g : Grown q₁ k (search rows volumeLinear (darts rows - found) found (take k q₁)) m₂ q₂ t) where
+          of-volume : Closed rows volume l
+          of-volume = subst (λ (s : List ℕ). Closed rows s l) (sym e) c
+
+          linear : Spread rows volumeLinear d l (take t q₂)
+          linear =
+              rw (g .front, from-found volumeLinear (take k q₁)) (spread rows volumeLinear d l b (linear-closed rows l of-volume) _ (begins volumeLinear))
+
+          pub grew-forward : Onward rows found (take t q₂) → Grew rows steps d queue found m₂ q₂ t
+          grew-forward o =
+              let o′ : Onward rows (length l) (take t q₂) = subst (λ (i : ℕ). Onward rows i (take t q₂)) (sym (length-take-le found queue (q .room))) o in
+              let j : Joined rows volume d l (take t q₂) = spread-joined rows volume d l _ (linear-spread rows w d l _ linear of-volume o′) in
+              grew-new _ m₂ q₂ t (subst (λ (s : List ℕ). Grown q₁ k s m₂ q₂ t) (sym (g .front)) g) (subst (λ (s : List ℕ). Joined rows s d l (take t q₂)) e j)
+
+          pub grew-again : (m₃ q₃ : List ℕ) (r : ℕ) → Grown q₂ t (search rows steps (darts rows - found) found (take t q₂)) m₃ q₃ r → Grew rows steps d queue found m₃ q₃ r
+          grew-again m₃ q₃ r f =
+              let v : Seeded rows steps d l (take t q₂) = subst (λ (s : List ℕ). Seeded rows s d l (take t q₂)) e (linear-seeded rows w d l _ linear) in
+              grew-new _ m₃ q₃ r (grown-both _ _ _ _ _ _ _ _ _ _ g f) (rw (from-found steps (take t q₂)) (spread-joined rows steps d l _ (spread rows steps d l b c _ v)))
 
       pub grew-edge : edge ≡ steps → (m₂ q₂ : List ℕ) (a : ℕ) → Grown q₁ k (take a q₂) m₂ q₂ a → Arm rows 2 d (take k q₁) (take a q₂) →
           (m₃ q₃ : List ℕ) (r : ℕ) → Grown q₂ a (take r q₃) m₃ q₃ r → Arm rows 3 d (take a q₂) (take r q₃) → Grew rows steps d queue found m₃ q₃ r

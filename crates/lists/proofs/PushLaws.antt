@@ -2,8 +2,10 @@
 --   Stays    the dart is null or there, and the queue as it was
 --   Enters   it is neither, and now the queue's last
 --   pushed   one of the two
+--   grown-both   two growths of the queue, one after the other
 -- Assumes nothing.
 use Prim.Native.Nat.{ℕ, _+_, _≤_, _<_}
+use native.Mathlib.Nat.{le-trans}
 use native.Mathlib.Omega.{arith}
 use mathlib.Core.Path.{_≡_, sym, ap, _∙_}
 use mathlib.Core.Logic.{_⊎_, inl, inr}
@@ -13,6 +15,7 @@ use lib.Seq.{length-take-le}
 use Rattle.orbits.specs.Search.{In, add}
 use Rattle.orbits.specs.Loans.{Grown}
 use Rattle.orbits.proofs.SearchLaws.{Added, null, old, new, added}
+use Rattle.orbits.proofs.TurnLaws.{drop-more}
 
 pub record Stays (queue : List ℕ) (k x : ℕ) (queue′ : List ℕ) (r : ℕ) : Type 0 where
   pub why : (x ≡ 0) ⊎ In x (take k queue)
@@ -44,3 +47,12 @@ module _ (queue : List ℕ) (k x : ℕ) (marks′ queue′ : List ℕ) (r : ℕ)
             last = e;
             more = omega (arith, length-take-le r queue′ (g .queue .room), ap length e, length-append (take k queue) (x ∷ []), length-take-le k queue room);
           })
+
+pub grown-both : (q : List ℕ) (f : ℕ) (l m₁ q₁ : List ℕ) (k : ℕ) (t m₂ q₂ : List ℕ) (r : ℕ) → Grown q f l m₁ q₁ k → Grown q₁ k t m₂ q₂ r → Grown q f t m₂ q₂ r
+grown-both q f l m₁ q₁ k t m₂ q₂ r a b =
+    record {
+      front = b .front;
+      back = b .back ∙ drop-more q₁ q k r (b .more) (a .back);
+      more = le-trans (a .more) (b .more);
+      queue = b .queue;
+    }

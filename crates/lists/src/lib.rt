@@ -1,5 +1,9 @@
 // Cell lists of a class whose steps lead back: each orbit is visited once, so that a list takes time linear in the darts. Ports `iter_vertices`, `iter_edges` and `iter_volumes` of dim3/basic_ops.rs.
-use betas::betas::beta_at;
+pub mod edges;
+pub mod volumes;
+
+use crate::edges::alternate;
+use crate::volumes::flood_forward;
 use orbits::scratch::wipe_marks;
 use orbits::scratch::wipe_queue;
 use orbits::search::flood;
@@ -11,34 +15,14 @@ ghost use lib.Dec.{ltb, eqb};
 ghost use Prim.Native.Nat.{ℕ, _-_, _<_, _≤_};
 ghost use lib.ListN.{length, take};
 ghost use Rattle.betas.specs.Betas.{darts};
-ghost use Rattle.orbits.specs.Steps.{edge};
-ghost use Rattle.orbits.specs.Search.{In, Symmetric};
-ghost use Rattle.orbits.specs.Loans.{Fit, Scratch, Queue, Grown, Zero, Listed};
+ghost use Rattle.orbits.specs.Search.{Symmetric};
+ghost use Rattle.orbits.specs.Loans.{Fit, Queue, Zero, Listed};
 ghost use Rattle.orbits.specs.Calls.{wiped};
 ghost use Rattle.orbits.specs.Visits.{stepsBy};
 ghost use Rattle.lists.specs.CellLists.{cellList, Put};
-ghost use Rattle.lists.specs.Joins.{Closed, Grew, Arm};
+ghost use Rattle.lists.specs.Joins.{Closed, Grew};
 
-// Follows beta 2 and beta 3 in turn from d, beta i first, and puts what it meets behind the queue, up to a null dart or one that is there.
-fn alternate(rows: &[u32], marks: &mut [u8], queue: &mut [u32], k: usize, d: u32, i: u32) -> usize
-    requires { ⌜ Scratch (now rows) (now marks) (now queue) × Queue (now marks) (now queue) k × In d (take k (now queue)) × In i edge ⌝ }
-    ensures { λ r. ⌜ Grown (now (queue .entry)) k (take r (now (queue .exit))) (now (marks .exit)) (now (queue .exit)) r × Arm (now (rows .entry)) i d (take k (now (queue .entry))) (take r (now (queue .exit))) ⌝ }
-{
-    let mut count = k;
-    let mut x = d;
-    let mut by = i;
-    loop {
-        x = beta_at(rows, by, x);
-        let more = push(marks, queue, count, x);
-        if more == count {
-            return count;
-        }
-        count = more;
-        by = 5 - by;
-    }
-}
-
-// Puts d into the queue, unless it is there, with all that the steps reach from it. An edge is one round or one chain of beta 2 and beta 3 in turn, so that no dart of it is met twice.
+// Puts d into the queue, unless it is there, with all that the steps reach from it.
 fn grow(
     rows: &[u32],
     written: Written,
@@ -59,6 +43,13 @@ fn grow(
         Written::Edge => {
             let a = alternate(rows, marks, queue, k, d, 2);
             alternate(rows, marks, queue, a, d, 3)
+        }
+        Written::Volume => {
+            let t = flood_forward(rows, marks, queue, found, k);
+            if t.ends {
+                return flood(rows, written, steps, marks, queue, found, t.count);
+            }
+            t.count
         }
         _ => flood(rows, written, steps, marks, queue, found, k),
     }

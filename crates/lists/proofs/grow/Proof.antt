@@ -1,15 +1,13 @@
--- `grow` meets its contract: a push, and then both arms of an edge, or the search. Assumes nothing.
+-- `grow` meets its contract: a push, and then both arms of an edge, a volume by beta 1 and beta 2, or the search. Assumes nothing.
 use native.Mathlib.Omega.{arith}
-use mathlib.Core.Path.{_≡_, refl, sym, ap, _∙_, subst}
-use mathlib.Core.List.{List, List·Memᴰ·head, List·Memᴰ·tail}
-use Prim.Native.Nat.{ℕ}
-use Rattle.betas.specs.Betas.{darts}
+use mathlib.Core.Path.{refl, sym, ap, _∙_}
+use mathlib.Core.List.{List·Memᴰ·head, List·Memᴰ·tail}
+use native.Mathlib.Nat.{le-trans}
 use Rattle.orbits.specs.declared.visits.Written.{Written}
-use Rattle.orbits.specs.declared.visits.Written.the-variants.{Edge}
 use Rattle.orbits.specs.Visits.{stepsBy}
 use Rattle.orbits.proofs.ScratchLaws.{fit-scratch, scratch-same}
 use Rattle.orbits.proofs.TurnLaws.{fit-same}
-use Rattle.lists.proofs.GrowLaws.{grew-same, entered, grew-flood, grew-edge}
+use Rattle.lists.proofs.GrowLaws.{grew-same, entered, grew-flood, grew-edge, grew-forward, grew-again}
 use borrow.Author.Needs.{needs}
 use Rattle.lists.proofs.grow.Statement.{statement}
 use Rattle.lists.proofs.grow.Tie as tie
@@ -52,11 +50,21 @@ alternate-requires-2 c κs =
       List·Memᴰ·tail (List·Memᴰ·head refl),
     )
 
+enum-told-2 : tie.Need-enum-told-2
+enum-told-2 c = search needs
+
+flood-forward-requires : tie.Need-flood-forward-requires
+flood-forward-requires c κs =
+    let s = c .before .before .before .before .before .before .before .before .before .before .before .before .before .before .before .before in
+    let p = c .before .before .before .before .before .before .before .before .before .push in
+    (scratch-same _ (s .args .marks .now) (s .args .queue .now) _ _ (fit-scratch (s .pre .0)) (p .kept .0) (p .kept .1 .0), p .ensures .queue, p .ensures .more)
+
 flood-requires : tie.Need-flood-requires
 flood-requires c κs =
-    let s = c .before .before .before .before .before .before .before .before .before .before .before .before .before .before .before in
-    let p = c .before .before .before .before .before .before .before .before .push in
-    (fit-same _ _ (s .args .marks .now) (s .args .queue .now) _ _ (s .pre .0) (p .kept .0) (p .kept .1 .0), p .ensures .queue, p .ensures .more, s .pre .4)
+    let s = c .before .before .before .before .before .before .before .before .before .before .before .before .before .before .before .before .before .before .before .before .before .before .before .before in
+    let p = c .before .before .before .before .before .before .before .before .before .before .before .before .before .before .before .before .before .push in
+    let t = c .before .before .before .before .before .before .before .flood-forward in
+    (fit-same _ _ (s .args .marks .now) (s .args .queue .now) _ _ (s .pre .0) (t .kept .1 .0 ∙ p .kept .0) (t .kept .1 .1 .0 ∙ p .kept .1 .0), t .ensures .0 .queue, le-trans (p .ensures .more) (t .ensures .0 .more), s .pre .4)
 
 same-length-3 : tie.Need-same-length-3
 same-length-3 c = search needs
@@ -66,11 +74,15 @@ same-length-4 c = search needs
 
 returns-2 : tie.Need-returns-2
 returns-2 c =
-    let s = c .before .before .before .before .before .before .before .before .before .before .before .before .before .before .before .before .before .before .before .before .before .before .before .before .before .before .before .before in
-    let a = c .before .before .before .before .before .before .before .before .before .before .before .alternate in
-    let b = c .before .before .before .before .alternate2 in
-    let e = ap (λ (w : Written). stepsBy w (s .args .steps .now)) (sym (c .before .before .before .before .before .before .before .before .before .before .before .before .before .before .enum-told .given .1)) ∙ s .pre .4 in
-    grew-edge _ _ _ (s .pre .2) _ _ (s .pre .1 .room) _ _ _ (c .before .before .before .before .before .before .before .before .before .before .before .before .before .before .before .before .before .before .before .before .before .push .ensures) (c .before .before .before .before .before .before .before .before .before .before .before .before .before .before .before .before .if1 .left) (s .pre .5) e _ _ _ (a .ensures .0) (a .ensures .1) _ _ _ (b .ensures .0) (b .ensures .1)
+    let s = c .before .before .before .before .before .before .before .before .before .before .before .before .before .before .before .before .before .before .before .before .before .before .before .before .before .before .before .before .before in
+    let e = ap (λ (w : Written). stepsBy w (s .args .steps .now)) (sym (c .before .before .before .before .before .before .before .before .before .before .before .before .before .before .before .enum-told2 .given .1)) ∙ s .pre .4 in
+    grew-again _ _ _ (s .pre .2) _ _ (s .pre .1 .room) _ _ _ (c .before .before .before .before .before .before .before .before .before .before .before .before .before .before .before .before .before .before .before .before .before .before .push .ensures) (c .before .before .before .before .before .before .before .before .before .before .before .before .before .before .before .before .before .if1 .left) (s .pre .5) (s .pre .0 .formed .below) (s .pre .3) _ (s .pre .0 .marks-n) (s .pre .1) (s .pre .0 .formed) e _ _ _ (c .before .before .before .before .before .before .before .before .before .before .before .before .flood-forward .ensures .0) _ _ _ (c .before .before .before .before .flood .ensures)
+
+flood-requires-2 : tie.Need-flood-requires-2
+flood-requires-2 c κs =
+    let s = c .before .before .before .before .before .before .before .before .before .before .before .before .before .before .before in
+    let p = c .before .before .before .before .before .before .before .before .push in
+    (fit-same _ _ (s .args .marks .now) (s .args .queue .now) _ _ (s .pre .0) (p .kept .0) (p .kept .1 .0), p .ensures .queue, p .ensures .more, s .pre .4)
 
 same-length-5 : tie.Need-same-length-5
 same-length-5 c = search needs
@@ -80,8 +92,35 @@ same-length-6 c = search needs
 
 returns-3 : tie.Need-returns-3
 returns-3 c =
+    let s = c .before .before .before .before .before .before .before .before .before .before .before .before .before .before .before .before .before .before .before .before .before .before .before .before .before .before .before .before in
+    let a = c .before .before .before .before .before .before .before .before .before .before .before .alternate in
+    let b = c .before .before .before .before .alternate2 in
+    let e = ap (λ (w : Written). stepsBy w (s .args .steps .now)) (sym (c .before .before .before .before .before .before .before .before .before .before .before .before .before .before .enum-told .given .1)) ∙ s .pre .4 in
+    grew-edge _ _ _ (s .pre .2) _ _ (s .pre .1 .room) _ _ _ (c .before .before .before .before .before .before .before .before .before .before .before .before .before .before .before .before .before .before .before .before .before .push .ensures) (c .before .before .before .before .before .before .before .before .before .before .before .before .before .before .before .before .if1 .left) (s .pre .5) e _ _ _ (a .ensures .0) (a .ensures .1) _ _ _ (b .ensures .0) (b .ensures .1)
+
+same-length-7 : tie.Need-same-length-7
+same-length-7 c = search needs
+
+same-length-8 : tie.Need-same-length-8
+same-length-8 c = search needs
+
+returns-4 : tie.Need-returns-4
+returns-4 c =
+    let s = c .before .before .before .before .before .before .before .before .before .before .before .before .before .before .before .before .before .before .before .before .before .before in
+    let t = c .before .before .before .before .before .flood-forward in
+    let e = ap (λ (w : Written). stepsBy w (s .args .steps .now)) (sym (c .before .before .before .before .before .before .before .before .enum-told2 .given .1)) ∙ s .pre .4 in
+    grew-forward _ _ _ (s .pre .2) _ _ (s .pre .1 .room) _ _ _ (c .before .before .before .before .before .before .before .before .before .before .before .before .before .before .before .push .ensures) (c .before .before .before .before .before .before .before .before .before .before .if1 .left) (s .pre .5) (s .pre .0 .formed .below) (s .pre .3) _ (s .pre .0 .marks-n) (s .pre .1) (s .pre .0 .formed) e _ _ _ (t .ensures .0) (t .ensures .1 (c .if2 .left))
+
+same-length-9 : tie.Need-same-length-9
+same-length-9 c = search needs
+
+same-length-10 : tie.Need-same-length-10
+same-length-10 c = search needs
+
+returns-5 : tie.Need-returns-5
+returns-5 c =
     let s = c .before .before .before .before .before .before .before .before .before .before .before .before .before .before .before .before .before .before .before .before in
-    grew-flood _ _ _ (s .pre .2) _ _ (s .pre .1 .room) _ _ _ (c .before .before .before .before .before .before .before .before .before .before .before .before .before .push .ensures) (c .before .before .before .before .before .before .before .before .if1 .left) (s .pre .5) (s .pre .0 .formed .below) (s .pre .3) _ (s .pre .0 .marks-n) (s .pre .1) _ _ _ (c .before .before .before .before .flood .ensures)
+    grew-flood _ _ _ (s .pre .2) _ _ (s .pre .1 .room) _ _ _ (c .before .before .before .before .before .before .before .before .before .before .before .before .before .push .ensures) (c .before .before .before .before .before .before .before .before .if1 .left) (s .pre .5) (s .pre .0 .formed .below) (s .pre .3) _ (s .pre .0 .marks-n) (s .pre .1) _ _ _ (c .before .before .before .before .flood2 .ensures)
 
 pub grow-spec : {M : Type 1} → statement M
 grow-spec =
@@ -94,10 +133,19 @@ grow-spec =
     enum-told
     alternate-requires
     alternate-requires-2
+    enum-told-2
+    flood-forward-requires
     flood-requires
     same-length-3
     same-length-4
     returns-2
+    flood-requires-2
     same-length-5
     same-length-6
-    returns-3)
+    returns-3
+    same-length-7
+    same-length-8
+    returns-4
+    same-length-9
+    same-length-10
+    returns-5)

@@ -1,4 +1,4 @@
--- `alternate` meets its contract, by the invariant `Following`. Assumes nothing.
+-- `edges::alternate` meets its contract, by the invariant `Following`. Assumes nothing.
 use mathlib.Core.Path.{_≡_, sym, ap, _∙_, subst}
 use Prim.Native.Nat.{ℕ, _-_, _≤_, _<_}
 use native.Mathlib.Omega.{arith}
@@ -6,8 +6,8 @@ use lib.ListN.{length, take}
 use Rattle.betas.specs.Betas.{darts}
 use Rattle.orbits.proofs.QueueLaws.{queue-n}
 use Rattle.lists.proofs.ArmLaws.{Following, following-starts, following-turn, following-ends, edge-less}
-use Rattle.lists.proofs.alternate.Statement.{statement}
-use Rattle.lists.proofs.alternate.Tie as tie
+use Rattle.lists.proofs.edges.alternate.Statement.{statement}
+use Rattle.lists.proofs.edges.alternate.Tie as tie
 
 abbrev Inv-loop : tie.InvT-loop
 Inv-loop rows marks₀ queue₀ k d i count₀ x₀ by₀ marks queue count x by = (length marks₀ ≡ darts rows) × Following rows i d marks₀ queue₀ k marks queue count x by
@@ -19,7 +19,7 @@ loop-holds : tie.Need-loop-holds Inv-loop μ-loop
 loop-holds c = (c .before .before .before .pre .0 .marks-n, following-starts _ (c .before .before .before .pre .0 .formed) _ _ _ _ _ (c .before .before .before .pre .1) (c .before .before .before .pre .3) (c .before .before .before .pre .2))
 
 beta-at-requires : tie.Need-beta-at-requires Inv-loop μ-loop
-beta-at-requires c κs = 
+beta-at-requires c κs =
     let v = c .loop .inv .1 in
     omega (arith, v .held .below _ (v .here), v .marks-n, c .before .before .before .before .pre .0 .marks-n, c .before .before .before .before .pre .0 .formed .sized .whole, edge-less (v .by-edge))
 

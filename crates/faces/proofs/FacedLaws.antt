@@ -20,10 +20,10 @@ use Rattle.orbits.specs.Cgal.{faceΦ}
 use Rattle.orbits.specs.Idents.{ident}
 use Rattle.orbits.proofs.CgalLaws.{symmetric, face-serves}
 use Rattle.orbits.proofs.IdentLaws.{ident-reached, ident-le, ident-same, ident-one, reach-real, reach-below, reach-symm}
+use Rattle.lists.specs.Joins.{Joined}
 use Rattle.faces.specs.Faces.{faceId, Regular}
 use Rattle.faces.specs.FaceLists.{Faced, Apart}
 use Rattle.faces.proofs.RegularLaws.{regular-spread, face-id-least}
-use Rattle.faces.proofs.RoundLaws.{Joined}
 
 module _ (rows : List ℕ) (w : WellFormed rows) where
   turns : Symmetric rows face
@@ -95,7 +95,7 @@ module _ (rows : List ℕ) (w : WellFormed rows) where
             ∙ sym (ident-same rows face (w .below) turns d x h r)
             ∙ least-d
 
-        pub faced-more : (wide : List ℕ) → Joined rows d k wide → Faced rows (d + 1) wide
+        pub faced-more : (wide : List ℕ) → Joined rows face d k wide → Faced rows (d + 1) wide
         faced-more wide j =
             record {
               only = λ x m. ⊎-elim (λ i. omega (arith, v .only x i)) (λ r. omega (arith, same x r)) (j .only x m);

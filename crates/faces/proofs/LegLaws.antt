@@ -24,7 +24,7 @@ use Rattle.orbits.proofs.Lists.{in-mem, mem-not}
 use Rattle.orbits.proofs.SearchLaws.{Added, null, old, new, added}
 use Rattle.orbits.proofs.QueueLaws.{queue-n}
 use Rattle.orbits.proofs.TurnLaws.{drop-more}
-use Rattle.lists.proofs.ListingLaws.{grown-both}
+use Rattle.lists.proofs.PushLaws.{grown-both}
 use Rattle.faces.specs.Faces.{fresh, insert, lower, Walk, turn, leg, forward, backward, faceWalk, Walked}
 
 -- ---- one insertion

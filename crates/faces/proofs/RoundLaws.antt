@@ -1,6 +1,6 @@
 -- The walk round the chain of a regular face, which puts its darts and their beta 3 images behind those that are done with.
 --   round-on, round-last     the step laws of the walk
---   Joined, round-joins      where the test passes it adds exactly the darts that the face's steps reach
+--   round-joins              where the test passes it adds exactly the darts that the face's steps reach
 --   Rounding, rounding-..    the loop of `go_round`
 -- Assumes nothing.
 use Prim.Native.Nat.{ℕ, suc, _<_}
@@ -19,7 +19,8 @@ use Rattle.orbits.specs.Search.{In, add, Reach, Bounded}
 use Rattle.orbits.specs.Loans.{Queue, Grown}
 use Rattle.orbits.proofs.SearchLaws.{Added, null, old, new, added, added-ext, added-has, ext-in}
 use Rattle.orbits.proofs.IdentLaws.{reach-real}
-use Rattle.lists.proofs.ListingLaws.{grown-both}
+use Rattle.lists.specs.Joins.{Joined}
+use Rattle.lists.proofs.PushLaws.{grown-both}
 use Rattle.faces.specs.Faces.{chain, Regular, regular}
 use Rattle.faces.specs.FaceLists.{roundFrom, goRound}
 use Rattle.faces.proofs.LeastLaws.{face-of-chain}
@@ -37,12 +38,6 @@ module _ (rows : List ℕ) (d f x : ℕ) (s : List ℕ) where
   round-last e = simp (eq-eqb (beta rows 1 x) d e)
 
 -- ---- what is put behind k
-
--- w has the darts of k, and with them all that d reaches by the face's steps
-pub record Joined (rows : List ℕ) (d : ℕ) (k w : List ℕ) : Type 0 where
-  pub old : (x : ℕ) → In x k → In x w
-  pub only : (x : ℕ) → In x w → In x k ⊎ Reach rows face d x
-  pub every : (x : ℕ) → Reach rows face d x → In x w
 
 -- s has the darts of k, those of the chain that are passed and their beta 3 images, and else only what d reaches
 record Passed (rows : List ℕ) (d : ℕ) (k a s : List ℕ) : Type 0 where
@@ -122,7 +117,7 @@ module _ (rows : List ℕ) (d : ℕ) (k : List ℕ) where
     unfolding goRound
     going-starts = record { s = k; left = refl; real = real; reached = ReflTransGenᴰ·refl; passed = passed-starts }
 
-    pub round-joins : Joined rows d k (goRound rows d k)
+    pub round-joins : Joined rows face d k (goRound rows d k)
     round-joins =
         let w : List ℕ = goRound rows d k in
         let g = regular-round rows m d (Going rows d k w) (λ t. Passed rows d k t w) (going-on w) (going-ends w) going-starts test in

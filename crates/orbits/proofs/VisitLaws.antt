@@ -1,25 +1,28 @@
 -- Visits whose steps are written out, and the lists of steps that have one.
 --   asked        what a step asks for, where j steps of a visit are done
 --   taken        a step more
+--   inner-room, image-room   room for images that are read before they are put into the queue
 --   Alike, alike-..   the loop that compares two lists of steps
 --   by-list      a visit by the steps that a list is known to be
 -- Assumes nothing.
 use mathlib.Core.Path.{_≡_, refl, sym, ap, _∙_, subst}
 use mathlib.Core.Logic.{⊎-elim}
 use mathlib.Core.List.{List}
-use Prim.Native.Nat.{ℕ, _+_, _≤_, _<_}
+use Prim.Native.Nat.{ℕ, _+_, _*_, _≤_, _<_}
 use native.Mathlib.Omega.{arith}
 use lib.Dec.{eqb}
 use lib.ListN.{length, getD, take}
 use lib.Seq.{ext-getD}
 use borrow.Author.Tests.{eqb-true, eqb-false}
-use Rattle.betas.specs.Betas.{darts}
+use Rattle.betas.specs.Betas.{beta, darts}
+use Rattle.betas.specs.Maps.{WellFormed}
 use Rattle.orbits.specs.declared.visits.Written.{Written}
 use Rattle.orbits.specs.Visits.{stepsBy}
 use Rattle.orbits.specs.Loans.{AreSteps, Scratch, Queue, Grown}
 use Rattle.orbits.specs.Search.{add, visit}
 use Rattle.orbits.specs.Steps.{image, IsStep}
 use Rattle.orbits.proofs.Lists.{bool}
+use Rattle.orbits.proofs.OrbitLaws.{image-below}
 use Rattle.orbits.proofs.TurnLaws.{Visiting, visiting-turn}
 
 module _ {rows steps : List ℕ} {d : ℕ} {marks₀ out₀ : List ℕ} {count : ℕ} {marks out : List ℕ} {k : ℕ} (j : ℕ) (v : Visiting rows steps d marks₀ out₀ count marks out k j) (h : j < length steps) where
@@ -33,6 +36,20 @@ module _ {rows steps : List ℕ} {d : ℕ} {marks₀ out₀ : List ℕ} {count :
 
   pub taken : {marks′ out′ : List ℕ} {r : ℕ} → length marks′ ≡ length marks → length out′ ≡ length out → Grown out k (add (take k out) (image rows (getD steps j 0) d)) marks′ out′ r → Visiting rows steps d marks₀ out₀ count marks′ out′ r (j + 1)
   taken m o g = visiting-turn rows steps d marks₀ out₀ count marks out k j _ _ _ _ v h refl m o g
+
+-- ---- images that are read before they are put into the queue
+
+-- the row of an image is there
+pub inner-room : {rows : List ℕ} → WellFormed rows → (i : ℕ) → i < 4 → (j d x : ℕ) → x ≡ beta rows j d → 4 * x + i < length rows
+inner-room {rows} w i h j d x e =
+    let b : x < darts rows = rw e (w .below j d) in
+    omega (arith, w .sized .whole)
+
+-- an image has a mark, and the queue has room for every mark
+pub image-room : {rows marks out : List ℕ} → Scratch rows marks out → (m o : ℕ) → m ≡ length marks → o ≡ length out → (c d x : ℕ) → x ≡ image rows c d → (x < m) × (m ≤ o)
+image-room {rows} s m o em eo c d x e =
+    let b : x < darts rows = rw e (image-below rows (s .formed .below) c d) in
+    (omega (arith, s .marks-n), omega (arith, s .marks-n, s .queue-n))
 
 -- ---- the loop of `same`: the first j places are equal
 

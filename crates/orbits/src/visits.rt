@@ -3,13 +3,16 @@ use crate::policy::EDGE;
 use crate::policy::FACE;
 use crate::policy::VERTEX;
 use crate::policy::VOLUME;
+use crate::search::push;
 use crate::search::step;
+use betas::betas::beta_at;
 ghost use mathlib.Core.Path.{_≡_};
 ghost use mathlib.Core.Bool.{true};
 ghost use Prim.Native.Nat.{ℕ, _<_};
 ghost use lib.ListN.{length, take};
 ghost use Rattle.betas.specs.Betas.{darts};
-ghost use Rattle.orbits.specs.Steps.{vertex, edge, face, volume};
+ghost use Rattle.betas.specs.Maps.{WellFormed};
+ghost use Rattle.orbits.specs.Steps.{step as stepBy, image as imageOf, vertex, edge, face, volume};
 ghost use Rattle.orbits.specs.Search.{visit as visitOf};
 ghost use Rattle.orbits.specs.Loans.{Queue, Grown, Scratch, Fit};
 ghost use Rattle.orbits.specs.Visits.{stepsBy};
@@ -63,17 +66,52 @@ pub fn written_out(steps: &[u8]) -> Written
     Written::Other
 }
 
+// Where the six steps of a vertex lead.
+struct VertexImages {
+    b12: u32,
+    b20: u32,
+    b13: u32,
+    b30: u32,
+    b23: u32,
+    b32: u32,
+}
+
+// Where the steps of a vertex lead from d. Each beta of d is read once, and all are read before one is put into the queue.
+fn vertex_images(rows: &[u32], d: u32) -> VertexImages
+    requires { ⌜ WellFormed (now rows) × (d < darts (now rows)) ⌝ }
+    ensures { λ a. ⌜ (a .b12 ≡ imageOf (now (rows .entry)) (stepBy 1 2) d) × (a .b20 ≡ imageOf (now (rows .entry)) (stepBy 2 0) d) × (a .b13 ≡ imageOf (now (rows .entry)) (stepBy 1 3) d) × (a .b30 ≡ imageOf (now (rows .entry)) (stepBy 3 0) d) × (a .b23 ≡ imageOf (now (rows .entry)) (stepBy 2 3) d) × (a .b32 ≡ imageOf (now (rows .entry)) (stepBy 3 2) d) ⌝ }
+{
+    let b0 = beta_at(rows, 0, d);
+    let b2 = beta_at(rows, 2, d);
+    let b3 = beta_at(rows, 3, d);
+    let b12 = beta_at(rows, 1, b2);
+    let b20 = beta_at(rows, 2, b0);
+    let b13 = beta_at(rows, 1, b3);
+    let b30 = beta_at(rows, 3, b0);
+    let b23 = beta_at(rows, 2, b3);
+    let b32 = beta_at(rows, 3, b2);
+    VertexImages {
+        b12,
+        b20,
+        b13,
+        b30,
+        b23,
+        b32,
+    }
+}
+
 // Visits d by the steps of a vertex.
 fn visit_vertex(rows: &[u32], marks: &mut [u8], out: &mut [u32], count: usize, d: u32) -> usize
     requires { ⌜ Scratch (now rows) (now marks) (now out) × Queue (now marks) (now out) count × (d < darts (now rows)) ⌝ }
     ensures { λ r. ⌜ Grown (now (out .entry)) count (visitOf (now (rows .entry)) vertex d (take count (now (out .entry)))) (now (marks .exit)) (now (out .exit)) r ⌝ }
 {
-    let k1 = step(rows, 0x12, marks, out, count, d);
-    let k2 = step(rows, 0x20, marks, out, k1, d);
-    let k3 = step(rows, 0x13, marks, out, k2, d);
-    let k4 = step(rows, 0x30, marks, out, k3, d);
-    let k5 = step(rows, 0x23, marks, out, k4, d);
-    step(rows, 0x32, marks, out, k5, d)
+    let a = vertex_images(rows, d);
+    let k1 = push(marks, out, count, a.b12);
+    let k2 = push(marks, out, k1, a.b20);
+    let k3 = push(marks, out, k2, a.b13);
+    let k4 = push(marks, out, k3, a.b30);
+    let k5 = push(marks, out, k4, a.b23);
+    push(marks, out, k5, a.b32)
 }
 
 // Visits d by the steps of an edge.

@@ -1,8 +1,7 @@
 -- Going through the darts in order, with the cells of the darts passed marked: a dart that is not marked is the least of its cell.
---   Known                      a list has exactly the darts whose identifier is below d
+--   Known                      a list has exactly the darts whose identifier is below d, the null dart perhaps
 --   known-closed               it leads nowhere but to itself
 --   known-starts, -old, -same, -new, -more   it is kept from dart to dart
---   more-real                  and it has no null dart
 --   cells-flags, cells-other, cells-own      the step laws of `cellsFrom`
 -- Assumes nothing.
 use mathlib.Core.Path.{_≡_, refl, sym, ap, _∙_, subst}
@@ -11,7 +10,7 @@ use mathlib.Core.Logic.{_⊎_, inl, inr, ⊎-elim}
 use mathlib.Core.List.{List, [], _∷_, _++_, List·Memᴰ·head, List·Memᴰ·tail, List·Memᴰ·not-nil, List·Memᴰ·eq-of-singleton, List·Memᴰ·append-cases, Memᴰ·append-left, Memᴰ·append-right}
 use mathlib.Mathlib.Logic.Relation.{ReflTransGenᴰ, ReflTransGenᴰ·refl, ReflTransGenᴰ·tail, ReflTransGenᴰ·single}
 use Prim.Native.Nat.{ℕ, zero, suc, _+_, _-_, _≤_, _<_}
-use native.Mathlib.Nat.{eq-or-lt-of-le, le-of-suc-le-suc, lt-irrefl}
+use native.Mathlib.Nat.{eq-or-lt-of-le}
 use native.Mathlib.Omega.{arith}
 use lib.Dec.{eqb}
 use lib.ListN.{length, getD, length-append, List·getD-append}
@@ -38,10 +37,13 @@ module _ (rows steps : List ℕ) (b : Bounded rows) (y : Symmetric rows steps) w
   id-real : (x : ℕ) → x < darts rows → (x ≡ 0 → ⊥) → id x ≡ 0 → ⊥
   id-real x h r = reach-real rows steps r (ident-reached rows steps b x h)
 
-  pub known-starts : Known rows steps 1 []
+  -- the null dart, whose identifier is itself
+  pub known-starts : Known rows steps 1 (0 ∷ [])
   known-starts =
       record {
-        only = λ x m. absurd (List·Memᴰ·not-nil m);
+        only = λ x m.
+            let e : x ≡ 0 = List·Memᴰ·eq-of-singleton m in
+            omega (arith, e, ident-le rows steps b x (subst (λ (i : ℕ). i < darts rows) (sym e) (omega (arith, b 0 0))));
         every = λ x h r l. let z : id x ≡ 0 = omega arith in absurd (id-real x h r z);
       }
 
@@ -98,9 +100,6 @@ module _ (rows steps : List ℕ) (b : Bounded rows) (y : Symmetric rows steps) w
                   (λ t. j .old x (v .every x x-lt z t))
                   (eq-or-lt-of-le (omega arith));
             }
-
-        pub more-real : ((x : ℕ) → In x l → x ≡ 0 → ⊥) → (x : ℕ) → In x m → x ≡ 0 → ⊥
-        more-real real x i = ⊎-elim (real x) (reach-real rows steps r) (j .only x i)
 
 -- ---- the step laws of `cellsFrom`
 

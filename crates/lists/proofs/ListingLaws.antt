@@ -1,12 +1,13 @@
 -- The loop of the list, and that a turn keeps its invariant.
 --   put-none, put-one     a dart put behind an output's first places, or not
 --   Listing, listing-..   the loop
+--   begun                 the null dart in marks and queue
 --   marks-same, queue-wiped   scratch at the end
 -- Assumes nothing.
 use mathlib.Core.Path.{_≡_, refl, sym, ap, _∙_, subst}
 use mathlib.Core.Bool.{Bool, true, false, cond, _&&_}
 use mathlib.Core.Logic.{_⊎_, inl, inr, ⊎-elim}
-use mathlib.Core.List.{List, [], _∷_, _++_, append-assoc, append-nil, List·Memᴰ·not-nil}
+use mathlib.Core.List.{List, [], _∷_, _++_, append-assoc, append-nil, List·Memᴰ·head}
 use Prim.Native.Nat.{ℕ, zero, suc, _+_, _-_, _≤_, _<_}
 use native.Mathlib.Nat.{le-refl, le-trans}
 use native.Mathlib.Numerals.{add-one}
@@ -24,9 +25,9 @@ use Rattle.orbits.specs.Calls.{wiped}
 use Rattle.orbits.specs.Search.{In, mem, Bounded, Symmetric}
 use Rattle.orbits.proofs.Lists.{bool, mem-in, not-mem}
 use Rattle.orbits.proofs.QueueLaws.{queue-n}
-use Rattle.orbits.proofs.TurnLaws.{drop-more}
+use Rattle.orbits.proofs.TurnLaws.{drop-more, seeded}
 use Rattle.orbits.proofs.ScratchLaws.{zero-split}
-use Rattle.lists.proofs.KnownLaws.{Known, known-closed, known-starts, known-old, known-same, known-new, known-more, more-real, cells-flags, cells-other, cells-own}
+use Rattle.lists.proofs.KnownLaws.{Known, known-closed, known-starts, known-old, known-same, known-new, known-more, cells-flags, cells-other, cells-own}
 
 -- ---- `put`
 
@@ -54,7 +55,7 @@ pub record Listing (rows steps flags : List ℕ) (marks₀ queue₀ out₀ marks
   pub few : count < d
   pub held : Queue marks queue found
   pub known : Known rows steps d (take found queue)
-  pub real : (x : ℕ) → In x (take found queue) → x ≡ 0 → ⊥
+  pub null-there : In 0 (take found queue)
   pub behind : drop found queue ≡ drop found queue₀
   pub left : take count out ++ cellsFrom (ident rows steps) flags d (darts rows - d) ≡ cellList rows steps flags
   pub rest : drop count out ≡ drop count out₀
@@ -62,10 +63,10 @@ pub record Listing (rows steps flags : List ℕ) (marks₀ queue₀ out₀ marks
 -- what a turn at d gives
 record Turned (rows steps flags : List ℕ) (found d r : ℕ) (l : List ℕ) : Type 0 where
   known : Known rows steps (d + 1) l
-  real : (x : ℕ) → In x l → x ≡ 0 → ⊥
+  null-there : In 0 l
   own : cellsFrom (ident rows steps) flags d (suc (darts rows - (d + 1))) ≡ cond (ltb found r && eqb (getD flags d 0) 0) (d ∷ []) [] ++ cellsFrom (ident rows steps) flags (d + 1) (darts rows - (d + 1))
 
-module _ (rows steps flags : List ℕ) (b : Bounded rows) (y : Symmetric rows steps) (marks queue : List ℕ) (found d : ℕ) (r : ℕ) (h : d < darts rows) (some : 0 < d) (n-is : length marks ≡ darts rows) (q : Queue marks queue found) (k : Known rows steps d (take found queue)) (z : (x : ℕ) → In x (take found queue) → x ≡ 0 → ⊥) where
+module _ (rows steps flags : List ℕ) (b : Bounded rows) (y : Symmetric rows steps) (marks queue : List ℕ) (found d : ℕ) (r : ℕ) (h : d < darts rows) (some : 0 < d) (n-is : length marks ≡ darts rows) (q : Queue marks queue found) (k : Known rows steps d (take found queue)) (z : In 0 (take found queue)) where
   l-length : length (take found queue) ≡ found
   l-length = length-take-le found queue (q .room)
 
@@ -80,7 +81,7 @@ module _ (rows steps flags : List ℕ) (b : Bounded rows) (y : Symmetric rows st
       let e = g .same m in
       record {
         known = rw (e .1) (known-same rows steps b y d (take found queue) h k m);
-        real = rw (e .1) z;
+        null-there = rw (e .1) z;
         own =
             cells-other (ident rows steps) flags d (darts rows - (d + 1)) (known-old rows steps b y d (take found queue) h k m)
             ∙ ap (λ (t : Bool). cond (t && eqb (getD flags d 0) 0) (d ∷ []) [] ++ cellsFrom (ident rows steps) flags (d + 1) (darts rows - (d + 1))) (sym (le-ltb found r (omega (arith, e .0))));
@@ -91,7 +92,7 @@ module _ (rows steps flags : List ℕ) (b : Bounded rows) (y : Symmetric rows st
       let j = g .new o in
       record {
         known = known-more rows steps b y d (take found queue) h k e o _ (j .1);
-        real = more-real rows steps b y d (take found queue) h k e o _ (j .1) z;
+        null-there = j .1 .old 0 z;
         own =
             ⊎-elim
             (λ t.
@@ -107,9 +108,9 @@ module _ (rows steps flags : List ℕ) (b : Bounded rows) (y : Symmetric rows st
       (bool (mem d (take found queue)))
 
 module _ (rows steps flags marks₀ queue₀ out₀ : List ℕ) (b : Bounded rows) (y : Symmetric rows steps) (n-is : length marks₀ ≡ darts rows) where
-  pub listing-starts : Queue marks₀ queue₀ 0 → Listing rows steps flags marks₀ queue₀ out₀ marks₀ queue₀ out₀ 0 0 1
+  pub listing-starts : Queue marks₀ queue₀ 1 → take 1 queue₀ ≡ 0 ∷ [] → Listing rows steps flags marks₀ queue₀ out₀ marks₀ queue₀ out₀ 1 0 1
   unfolding cellsBy
-  listing-starts q =
+  listing-starts q e =
       record {
         marks-n = refl;
         queue-same = refl;
@@ -118,8 +119,8 @@ module _ (rows steps flags marks₀ queue₀ out₀ : List ℕ) (b : Bounded row
         upto = omega (arith, b 0 0);
         few = omega arith;
         held = q;
-        known = known-starts rows steps b y;
-        real = λ x m. absurd (List·Memᴰ·not-nil m);
+        known = rw e (known-starts rows steps b y);
+        null-there = rw e (List·Memᴰ·head refl);
         behind = refl;
         left = refl;
         rest = refl;
@@ -132,7 +133,7 @@ module _ (rows steps flags marks₀ queue₀ out₀ : List ℕ) (b : Bounded row
     pub listing-turn : (marks′ queue′ out′ : List ℕ) (r c : ℕ) → d < darts rows → length marks′ ≡ length marks → length queue′ ≡ length queue → length out′ ≡ length out → Grew rows steps d queue found marks′ queue′ r → Put (ltb found r && eqb (getD flags d 0) 0) d out count out′ c → Listing rows steps flags marks₀ queue₀ out₀ marks′ queue′ out′ r c (d + 1)
     listing-turn marks′ queue′ out′ r c h e-m e-q e-o g p =
         let t : Turned rows steps flags found d r (take r queue′) =
-        turned rows steps flags b y marks queue found d r h (v .some) (v .marks-n ∙ n-is) (v .held) (v .known) (v .real) marks′ queue′ g in
+        turned rows steps flags b y marks queue found d r h (v .some) (v .marks-n ∙ n-is) (v .held) (v .known) (v .null-there) marks′ queue′ g in
         let f : darts rows - d ≡ suc (darts rows - (d + 1)) = omega arith in
         record {
           marks-n = e-m ∙ v .marks-n;
@@ -143,7 +144,7 @@ module _ (rows steps flags marks₀ queue₀ out₀ : List ℕ) (b : Bounded row
           few = omega (arith, v .few, p .one);
           held = g .held;
           known = t .known;
-          real = t .real;
+          null-there = t .null-there;
           behind = g .back ∙ drop-more queue queue₀ found r (g .more) (v .behind);
           left =
               ap (λ (x : List ℕ). x ++ cellsFrom (ident rows steps) flags (d + 1) (darts rows - (d + 1))) (p .front)
@@ -169,7 +170,11 @@ module _ (rows steps flags marks₀ queue₀ out₀ : List ℕ) (b : Bounded row
               ∙ ap (λ (x : List ℕ). cellList rows steps flags ++ x) (v .rest ∙ ap (λ (i : ℕ). drop i out₀) k);
         }
 
--- ---- scratch at the end: n zeros where the queue was, and the marks as they were
+-- ---- scratch: the null dart begins the queue; at the end n zeros stand where it was, and the marks are as they were
+
+module _ (marks queue : List ℕ) where
+  pub begun : Zero marks → 0 < length marks → length marks ≤ length queue → Queue (set marks 0 1) (set queue 0 0) 1 × (take 1 (set queue 0 0) ≡ 0 ∷ [])
+  begun z h w = (seeded 0 marks queue h w z, take-suc-set queue 0 0 (omega arith))
 
 pub marks-same : (n : ℕ) (marks₀ marks marks′ : List ℕ) → length marks₀ ≡ n → Zero marks₀ → length marks ≡ length marks₀ → marks′ ≡ wiped n marks → marks′ ≡ marks₀
 marks-same n marks₀ marks marks′ n-is z e w =
@@ -179,5 +184,6 @@ marks-same n marks₀ marks marks′ n-is z e w =
     ∙ ap (λ (t : List ℕ). replicate n 0 ++ t) (drop-of-length-le marks a ∙ sym (drop-of-length-le marks₀ b))
     ∙ zero-split marks₀ n z (omega arith)
 
-pub queue-wiped : (n found : ℕ) (queue₀ queue queue′ : List ℕ) → found ≤ n → drop found queue ≡ drop found queue₀ → queue′ ≡ wiped n queue → queue′ ≡ wiped n queue₀
-queue-wiped n found queue₀ queue queue′ h e w = w ∙ ap (λ (t : List ℕ). replicate n 0 ++ t) (drop-more queue queue₀ found n h e)
+pub queue-wiped : (n found : ℕ) (queue₀ queue queue′ : List ℕ) → 0 < n → found ≤ n → drop found queue ≡ drop found (set queue₀ 0 0) → queue′ ≡ wiped n queue → queue′ ≡ wiped n queue₀
+queue-wiped n found queue₀ queue queue′ some h e w =
+    w ∙ ap (λ (t : List ℕ). replicate n 0 ++ t) (drop-more queue (set queue₀ 0 0) found n h e ∙ drop-set-lt n queue₀ 0 0 some)

@@ -2,6 +2,8 @@
 --   Stays    the dart is null or there, and the queue as it was
 --   Enters   it is neither, and now the queue's last
 --   pushed   one of the two
+--   grown-there  what was there is there
+--   unmarked-real   where the null dart is there, a dart that has no mark is not null
 --   grown-both   two growths of the queue, one after the other
 -- Assumes nothing.
 use Prim.Native.Nat.{ℕ, _+_, _≤_, _<_}
@@ -9,12 +11,14 @@ use native.Mathlib.Nat.{le-trans}
 use native.Mathlib.Omega.{arith}
 use mathlib.Core.Path.{_≡_, sym, ap, _∙_}
 use mathlib.Core.Logic.{_⊎_, inl, inr}
-use mathlib.Core.List.{List, [], _∷_, _++_}
-use lib.ListN.{length, take, length-append}
+use mathlib.Core.List.{List, [], _∷_, _++_, Memᴰ·cast}
+use lib.ListN.{length, getD, take, length-append}
 use lib.Seq.{length-take-le}
-use Rattle.orbits.specs.Search.{In, add}
-use Rattle.orbits.specs.Loans.{Grown}
-use Rattle.orbits.proofs.SearchLaws.{Added, null, old, new, added}
+use Rattle.orbits.specs.Search.{In, mem, add}
+use Rattle.orbits.specs.Loans.{Queue, Grown}
+use Rattle.orbits.proofs.Lists.{not-mem}
+use Rattle.orbits.proofs.QueueLaws.{flag-zero}
+use Rattle.orbits.proofs.SearchLaws.{Added, null, old, new, added, added-ext, ext-in}
 use Rattle.orbits.proofs.TurnLaws.{drop-more}
 
 pub record Stays (queue : List ℕ) (k x : ℕ) (queue′ : List ℕ) (r : ℕ) : Type 0 where
@@ -56,3 +60,12 @@ grown-both q f l m₁ q₁ k t m₂ q₂ r a b =
       more = le-trans (a .more) (b .more);
       queue = b .queue;
     }
+
+-- what was there is there
+pub grown-there : (queue : List ℕ) (k x : ℕ) (marks′ queue′ : List ℕ) (r y : ℕ) → Grown queue k (add (take k queue) x) marks′ queue′ r → In y (take k queue) → In y (take r queue′)
+grown-there queue k x marks′ queue′ r y g m = rw (g .front) (ext-in (added-ext (added (take k queue) x)) m)
+
+-- where the null dart is in the queue, a dart that has no mark is not null
+pub unmarked-real : (marks queue : List ℕ) (k x : ℕ) → Queue marks queue k → x < length marks → In 0 (take k queue) → getD marks x 0 ≡ 0 → x ≡ 0 → ⊥
+unmarked-real marks queue k x q h m e z =
+    not-mem x (take k queue) (flag-zero (mem x (take k queue)) (sym (q .flags x h) ∙ e)) (Memᴰ·cast z m)

@@ -1,6 +1,6 @@
 // An edge is one round or one chain of beta 2 and beta 3 in turn, so that none of its darts has to be met twice.
+use crate::meet::meet;
 use betas::betas::beta_at;
-use orbits::search::push;
 ghost use mathlib.Core.Path.{_≡_};
 ghost use Prim.Native.Nat.{ℕ};
 ghost use lib.ListN.{take};
@@ -9,7 +9,7 @@ ghost use Rattle.orbits.specs.Search.{In};
 ghost use Rattle.orbits.specs.Loans.{Scratch, Queue, Grown};
 ghost use Rattle.lists.specs.Joins.{Arm};
 
-// Follows beta 2 and beta 3 in turn from d, beta i first, and puts what it meets behind the queue, up to a null dart or one that is there.
+// Follows beta 2 and beta 3 in turn from d, beta i first, and puts what it meets behind the queue, up to one that is there.
 pub fn alternate(
     rows: &[u32],
     marks: &mut [u8],
@@ -18,7 +18,7 @@ pub fn alternate(
     d: u32,
     i: u32,
 ) -> usize
-    requires { ⌜ Scratch (now rows) (now marks) (now queue) × Queue (now marks) (now queue) k × In d (take k (now queue)) × In i edge ⌝ }
+    requires { ⌜ Scratch (now rows) (now marks) (now queue) × Queue (now marks) (now queue) k × In d (take k (now queue)) × In i edge × In 0 (take k (now queue)) ⌝ }
     ensures { λ r. ⌜ Grown (now (queue .entry)) k (take r (now (queue .exit))) (now (marks .exit)) (now (queue .exit)) r × Arm (now (rows .entry)) i d (take k (now (queue .entry))) (take r (now (queue .exit))) ⌝ }
 {
     let mut count = k;
@@ -26,7 +26,7 @@ pub fn alternate(
     let mut by = i;
     loop {
         x = beta_at(rows, by, x);
-        let more = push(marks, queue, count, x);
+        let more = meet(marks, queue, count, x);
         if more == count {
             return count;
         }

@@ -1,13 +1,14 @@
 // Cell lists of a class whose steps lead back: each orbit is visited once, so that a list takes time linear in the darts. Ports `iter_vertices`, `iter_edges` and `iter_volumes` of dim3/basic_ops.rs.
 pub mod edges;
+pub mod meet;
 pub mod volumes;
 
 use crate::edges::alternate;
+use crate::meet::meet;
 use crate::volumes::flood_forward;
 use orbits::scratch::wipe_marks;
 use orbits::scratch::wipe_queue;
 use orbits::search::flood;
-use orbits::search::push;
 use orbits::visits::Written;
 ghost use mathlib.Core.Path.{_≡_};
 ghost use mathlib.Core.Bool.{_&&_};
@@ -15,7 +16,7 @@ ghost use lib.Dec.{ltb, eqb};
 ghost use Prim.Native.Nat.{ℕ, _-_, _<_, _≤_};
 ghost use lib.ListN.{length, take};
 ghost use Rattle.betas.specs.Betas.{darts};
-ghost use Rattle.orbits.specs.Search.{Symmetric};
+ghost use Rattle.orbits.specs.Search.{In, Symmetric};
 ghost use Rattle.orbits.specs.Loans.{Fit, Queue, Zero, Listed};
 ghost use Rattle.orbits.specs.Calls.{wiped};
 ghost use Rattle.orbits.specs.Visits.{stepsBy};
@@ -32,10 +33,10 @@ fn grow(
     found: usize,
     d: u32,
 ) -> usize
-    requires { ⌜ Fit (now rows) (now steps) (now marks) (now queue) × Queue (now marks) (now queue) found × (0 < d) × (d < darts (now rows)) × (stepsBy written (now steps) ≡ now steps) × Closed (now rows) (now steps) (take found (now queue)) ⌝ }
+    requires { ⌜ Fit (now rows) (now steps) (now marks) (now queue) × Queue (now marks) (now queue) found × (0 < d) × (d < darts (now rows)) × (stepsBy written (now steps) ≡ now steps) × Closed (now rows) (now steps) (take found (now queue)) × In 0 (take found (now queue)) ⌝ }
     ensures { λ r. ⌜ Grew (now (rows .entry)) (now (steps .entry)) d (now (queue .entry)) found (now (marks .exit)) (now (queue .exit)) r ⌝ }
 {
-    let k = push(marks, queue, found, d);
+    let k = meet(marks, queue, found, d);
     if k == found {
         return found;
     }
@@ -70,7 +71,7 @@ fn put(output: &mut [u32], count: usize, x: u32, old: usize, new: usize, flag: u
     count + 1
 }
 
-// Lists the cells of a class: each dart that is not unused and is the least of its cell, in order. The queue's first n places are 0 afterwards.
+// Lists the cells of a class: each dart that is not unused and is the least of its cell, in order. The null dart begins the queue, which has n places of 0 in front afterwards.
 pub fn list_core(
     rows: &[u32],
     written: Written,
@@ -84,7 +85,9 @@ pub fn list_core(
     ensures { λ r. ⌜ (now (marks .exit) ≡ now (marks .entry)) × (now (queue .exit) ≡ wiped (darts (now (rows .entry))) (now (queue .entry))) × Listed (cellList (now (rows .entry)) (now (steps .entry)) (now (flags .entry))) (now (output .entry)) (now (output .exit)) r ⌝ }
 {
     let n = marks.len();
-    let mut found: usize = 0;
+    marks[0] = 1;
+    queue[0] = 0;
+    let mut found: usize = 1;
     let mut count: usize = 0;
     let mut d: usize = 1;
     while d < n {

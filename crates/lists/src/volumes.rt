@@ -1,13 +1,13 @@
 // A volume by beta 1 and beta 2 alone. Where no chain of beta 1 ends, beta 0 leads to no dart that these do not find.
+use crate::meet::meet;
 use betas::betas::beta_at;
-use orbits::search::push;
 ghost use mathlib.Core.Path.{_≡_};
 ghost use mathlib.Core.Bool.{false};
 ghost use Prim.Native.Nat.{ℕ, _-_, _<_, _≤_};
 ghost use lib.ListN.{take};
 ghost use Rattle.betas.specs.Betas.{darts};
 ghost use Rattle.orbits.specs.Steps.{volumeLinear};
-ghost use Rattle.orbits.specs.Search.{search, visit};
+ghost use Rattle.orbits.specs.Search.{In, search, visit};
 ghost use Rattle.orbits.specs.Loans.{Scratch, Queue, Grown};
 ghost use Rattle.lists.specs.Joins.{Onward};
 
@@ -19,13 +19,13 @@ pub struct Tide {
 
 // Visits d by beta 1 and beta 2.
 fn visit_forward(rows: &[u32], marks: &mut [u8], queue: &mut [u32], count: usize, d: u32) -> usize
-    requires { ⌜ Scratch (now rows) (now marks) (now queue) × Queue (now marks) (now queue) count × (d < darts (now rows)) ⌝ }
+    requires { ⌜ Scratch (now rows) (now marks) (now queue) × Queue (now marks) (now queue) count × (d < darts (now rows)) × In 0 (take count (now queue)) ⌝ }
     ensures { λ r. ⌜ Grown (now (queue .entry)) count (visit (now (rows .entry)) volumeLinear d (take count (now (queue .entry)))) (now (marks .exit)) (now (queue .exit)) r ⌝ }
 {
     let x = beta_at(rows, 1, d);
     let y = beta_at(rows, 2, d);
-    let k = push(marks, queue, count, x);
-    push(marks, queue, k, y)
+    let k = meet(marks, queue, count, x);
+    meet(marks, queue, k, y)
 }
 
 // Visits the darts of the queue by beta 1 and beta 2 from the place `from` on, those that it finds too.
@@ -36,7 +36,7 @@ pub fn flood_forward(
     from: usize,
     seeds: usize,
 ) -> Tide
-    requires { ⌜ Scratch (now rows) (now marks) (now queue) × Queue (now marks) (now queue) seeds × (from ≤ seeds) ⌝ }
+    requires { ⌜ Scratch (now rows) (now marks) (now queue) × Queue (now marks) (now queue) seeds × (from ≤ seeds) × In 0 (take seeds (now queue)) ⌝ }
     ensures { λ r. ⌜ Grown (now (queue .entry)) seeds (search (now (rows .entry)) volumeLinear (darts (now (rows .entry)) - from) from (take seeds (now (queue .entry)))) (now (marks .exit)) (now (queue .exit)) (r .count) × (r .ends ≡ false → Onward (now (rows .entry)) from (take (r .count) (now (queue .exit)))) ⌝ }
 {
     let mut k = from;

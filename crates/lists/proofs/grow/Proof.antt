@@ -7,15 +7,16 @@ use Rattle.orbits.specs.declared.visits.Written.{Written}
 use Rattle.orbits.specs.Visits.{stepsBy}
 use Rattle.orbits.proofs.ScratchLaws.{fit-scratch, scratch-same}
 use Rattle.orbits.proofs.TurnLaws.{fit-same}
+use Rattle.lists.proofs.PushLaws.{grown-there}
 use Rattle.lists.proofs.GrowLaws.{grew-same, entered, grew-flood, grew-edge, grew-forward, grew-again}
 use borrow.Author.Needs.{needs}
 use Rattle.lists.proofs.grow.Statement.{statement}
 use Rattle.lists.proofs.grow.Tie as tie
 
-push-requires : tie.Need-push-requires
-push-requires c κs =
+meet-requires : tie.Need-meet-requires
+meet-requires c κs =
     let s = c .before .before .before .before .before .before in
-    (s .pre .1, omega (arith, s .pre .0 .marks-n, s .pre .3), omega (arith, s .pre .0 .marks-n, s .pre .0 .out-n))
+    (s .pre .1, omega (arith, s .pre .0 .marks-n, s .pre .3), omega (arith, s .pre .0 .marks-n, s .pre .0 .out-n), s .pre .6)
 
 same-length : tie.Need-same-length
 same-length c = search needs
@@ -24,7 +25,7 @@ same-length-2 : tie.Need-same-length-2
 same-length-2 c = search needs
 
 returns : tie.Need-returns
-returns c = grew-same _ _ _ (c .before .before .before .before .before .before .before .before .before .before .before .before .pre .2) _ _ (c .before .before .before .before .before .before .before .before .before .before .before .before .pre .1 .room) _ _ _ (c .before .before .before .before .before .push .ensures) (c .if1 .taken)
+returns c = grew-same _ _ _ (c .before .before .before .before .before .before .before .before .before .before .before .before .pre .2) _ _ (c .before .before .before .before .before .before .before .before .before .before .before .before .pre .1 .room) _ _ _ (c .before .before .before .before .before .meet .ensures) (c .if1 .taken)
 
 enum-told : tie.Need-enum-told
 enum-told c = search needs
@@ -32,22 +33,24 @@ enum-told c = search needs
 alternate-requires : tie.Need-alternate-requires
 alternate-requires c κs =
     let s = c .before .before .before .before .before .before .before .before .before .before .before .before .before .before .before .before in
-    let p = c .before .before .before .before .before .before .before .before .before .push in (
+    let p = c .before .before .before .before .before .before .before .before .before .meet in (
       scratch-same _ (s .args .marks .now) (s .args .queue .now) _ _ (fit-scratch (s .pre .0)) (p .kept .0) (p .kept .1 .0),
       p .ensures .queue,
       entered (s .args .rows .now) (s .args .steps .now) _ (s .pre .2) _ _ (s .pre .1 .room) _ _ _ (p .ensures) (c .before .before .before .before .if1 .left),
       List·Memᴰ·head refl,
+      grown-there _ _ _ _ _ _ _ (p .ensures) (s .pre .6),
     )
 
 alternate-requires-2 : tie.Need-alternate-requires-2
 alternate-requires-2 c κs =
     let s = c .before .before .before .before .before .before .before .before .before .before .before .before .before .before .before .before .before .before .before .before .before .before .before in
-    let p = c .before .before .before .before .before .before .before .before .before .before .before .before .before .before .before .before .push in
+    let p = c .before .before .before .before .before .before .before .before .before .before .before .before .before .before .before .before .meet in
     let a = c .before .before .before .before .before .before .alternate in (
       scratch-same _ (s .args .marks .now) (s .args .queue .now) _ _ (fit-scratch (s .pre .0)) (a .kept .1 .0 ∙ p .kept .0) (a .kept .1 .1 .0 ∙ p .kept .1 .0),
       a .ensures .0 .queue,
       a .ensures .1 .old _ (entered (s .args .rows .now) (s .args .steps .now) _ (s .pre .2) _ _ (s .pre .1 .room) _ _ _ (p .ensures) (c .before .before .before .before .before .before .before .before .before .before .before .if1 .left)),
       List·Memᴰ·tail (List·Memᴰ·head refl),
+      a .ensures .1 .old _ (grown-there _ _ _ _ _ _ _ (p .ensures) (s .pre .6)),
     )
 
 enum-told-2 : tie.Need-enum-told-2
@@ -56,13 +59,13 @@ enum-told-2 c = search needs
 flood-forward-requires : tie.Need-flood-forward-requires
 flood-forward-requires c κs =
     let s = c .before .before .before .before .before .before .before .before .before .before .before .before .before .before .before .before in
-    let p = c .before .before .before .before .before .before .before .before .before .push in
-    (scratch-same _ (s .args .marks .now) (s .args .queue .now) _ _ (fit-scratch (s .pre .0)) (p .kept .0) (p .kept .1 .0), p .ensures .queue, p .ensures .more)
+    let p = c .before .before .before .before .before .before .before .before .before .meet in
+    (scratch-same _ (s .args .marks .now) (s .args .queue .now) _ _ (fit-scratch (s .pre .0)) (p .kept .0) (p .kept .1 .0), p .ensures .queue, p .ensures .more, grown-there _ _ _ _ _ _ _ (p .ensures) (s .pre .6))
 
 flood-requires : tie.Need-flood-requires
 flood-requires c κs =
     let s = c .before .before .before .before .before .before .before .before .before .before .before .before .before .before .before .before .before .before .before .before .before .before .before .before in
-    let p = c .before .before .before .before .before .before .before .before .before .before .before .before .before .before .before .before .before .push in
+    let p = c .before .before .before .before .before .before .before .before .before .before .before .before .before .before .before .before .before .meet in
     let t = c .before .before .before .before .before .before .before .flood-forward in
     (fit-same _ _ (s .args .marks .now) (s .args .queue .now) _ _ (s .pre .0) (t .kept .1 .0 ∙ p .kept .0) (t .kept .1 .1 .0 ∙ p .kept .1 .0), t .ensures .0 .queue, le-trans (p .ensures .more) (t .ensures .0 .more), s .pre .4)
 
@@ -76,12 +79,12 @@ returns-2 : tie.Need-returns-2
 returns-2 c =
     let s = c .before .before .before .before .before .before .before .before .before .before .before .before .before .before .before .before .before .before .before .before .before .before .before .before .before .before .before .before .before in
     let e = ap (λ (w : Written). stepsBy w (s .args .steps .now)) (sym (c .before .before .before .before .before .before .before .before .before .before .before .before .before .before .before .enum-told2 .given .1)) ∙ s .pre .4 in
-    grew-again _ _ _ (s .pre .2) _ _ (s .pre .1 .room) _ _ _ (c .before .before .before .before .before .before .before .before .before .before .before .before .before .before .before .before .before .before .before .before .before .before .push .ensures) (c .before .before .before .before .before .before .before .before .before .before .before .before .before .before .before .before .before .if1 .left) (s .pre .5) (s .pre .0 .formed .below) (s .pre .3) _ (s .pre .0 .marks-n) (s .pre .1) (s .pre .0 .formed) e _ _ _ (c .before .before .before .before .before .before .before .before .before .before .before .before .flood-forward .ensures .0) _ _ _ (c .before .before .before .before .flood .ensures)
+    grew-again _ _ _ (s .pre .2) _ _ (s .pre .1 .room) _ _ _ (c .before .before .before .before .before .before .before .before .before .before .before .before .before .before .before .before .before .before .before .before .before .before .meet .ensures) (c .before .before .before .before .before .before .before .before .before .before .before .before .before .before .before .before .before .if1 .left) (s .pre .5) (s .pre .0 .formed .below) (s .pre .3) _ (s .pre .0 .marks-n) (s .pre .1) (s .pre .0 .formed) e _ _ _ (c .before .before .before .before .before .before .before .before .before .before .before .before .flood-forward .ensures .0) _ _ _ (c .before .before .before .before .flood .ensures)
 
 flood-requires-2 : tie.Need-flood-requires-2
 flood-requires-2 c κs =
     let s = c .before .before .before .before .before .before .before .before .before .before .before .before .before .before .before in
-    let p = c .before .before .before .before .before .before .before .before .push in
+    let p = c .before .before .before .before .before .before .before .before .meet in
     (fit-same _ _ (s .args .marks .now) (s .args .queue .now) _ _ (s .pre .0) (p .kept .0) (p .kept .1 .0), p .ensures .queue, p .ensures .more, s .pre .4)
 
 same-length-5 : tie.Need-same-length-5
@@ -96,7 +99,7 @@ returns-3 c =
     let a = c .before .before .before .before .before .before .before .before .before .before .before .alternate in
     let b = c .before .before .before .before .alternate2 in
     let e = ap (λ (w : Written). stepsBy w (s .args .steps .now)) (sym (c .before .before .before .before .before .before .before .before .before .before .before .before .before .before .enum-told .given .1)) ∙ s .pre .4 in
-    grew-edge _ _ _ (s .pre .2) _ _ (s .pre .1 .room) _ _ _ (c .before .before .before .before .before .before .before .before .before .before .before .before .before .before .before .before .before .before .before .before .before .push .ensures) (c .before .before .before .before .before .before .before .before .before .before .before .before .before .before .before .before .if1 .left) (s .pre .5) e _ _ _ (a .ensures .0) (a .ensures .1) _ _ _ (b .ensures .0) (b .ensures .1)
+    grew-edge _ _ _ (s .pre .2) _ _ (s .pre .1 .room) _ _ _ (c .before .before .before .before .before .before .before .before .before .before .before .before .before .before .before .before .before .before .before .before .before .meet .ensures) (c .before .before .before .before .before .before .before .before .before .before .before .before .before .before .before .before .if1 .left) (s .pre .5) e _ _ _ (a .ensures .0) (a .ensures .1) _ _ _ (b .ensures .0) (b .ensures .1)
 
 same-length-7 : tie.Need-same-length-7
 same-length-7 c = search needs
@@ -109,7 +112,7 @@ returns-4 c =
     let s = c .before .before .before .before .before .before .before .before .before .before .before .before .before .before .before .before .before .before .before .before .before .before in
     let t = c .before .before .before .before .before .flood-forward in
     let e = ap (λ (w : Written). stepsBy w (s .args .steps .now)) (sym (c .before .before .before .before .before .before .before .before .enum-told2 .given .1)) ∙ s .pre .4 in
-    grew-forward _ _ _ (s .pre .2) _ _ (s .pre .1 .room) _ _ _ (c .before .before .before .before .before .before .before .before .before .before .before .before .before .before .before .push .ensures) (c .before .before .before .before .before .before .before .before .before .before .if1 .left) (s .pre .5) (s .pre .0 .formed .below) (s .pre .3) _ (s .pre .0 .marks-n) (s .pre .1) (s .pre .0 .formed) e _ _ _ (t .ensures .0) (t .ensures .1 (c .if2 .left))
+    grew-forward _ _ _ (s .pre .2) _ _ (s .pre .1 .room) _ _ _ (c .before .before .before .before .before .before .before .before .before .before .before .before .before .before .before .meet .ensures) (c .before .before .before .before .before .before .before .before .before .before .if1 .left) (s .pre .5) (s .pre .0 .formed .below) (s .pre .3) _ (s .pre .0 .marks-n) (s .pre .1) (s .pre .0 .formed) e _ _ _ (t .ensures .0) (t .ensures .1 (c .if2 .left))
 
 same-length-9 : tie.Need-same-length-9
 same-length-9 c = search needs
@@ -120,13 +123,13 @@ same-length-10 c = search needs
 returns-5 : tie.Need-returns-5
 returns-5 c =
     let s = c .before .before .before .before .before .before .before .before .before .before .before .before .before .before .before .before .before .before .before .before in
-    grew-flood _ _ _ (s .pre .2) _ _ (s .pre .1 .room) _ _ _ (c .before .before .before .before .before .before .before .before .before .before .before .before .before .push .ensures) (c .before .before .before .before .before .before .before .before .if1 .left) (s .pre .5) (s .pre .0 .formed .below) (s .pre .3) _ (s .pre .0 .marks-n) (s .pre .1) _ _ _ (c .before .before .before .before .flood2 .ensures)
+    grew-flood _ _ _ (s .pre .2) _ _ (s .pre .1 .room) _ _ _ (c .before .before .before .before .before .before .before .before .before .before .before .before .before .meet .ensures) (c .before .before .before .before .before .before .before .before .if1 .left) (s .pre .5) (s .pre .0 .formed .below) (s .pre .3) _ (s .pre .0 .marks-n) (s .pre .1) _ _ _ (c .before .before .before .before .flood2 .ensures)
 
 pub grow-spec : {M : Type 1} → statement M
 grow-spec =
     tie.close
     (tie.spec
-    push-requires
+    meet-requires
     same-length
     same-length-2
     returns

@@ -1,14 +1,13 @@
 -- `list_core` meets its contract, by the invariant `Listing`. Assumes nothing.
 use mathlib.Core.Path.{_≡_, refl, sym, ap, _∙_}
-use mathlib.Core.List.{List, _++_}
 use Prim.Native.Nat.{ℕ, _-_, _<_, _≤_}
 use native.Mathlib.Omega.{arith}
-use lib.ListN.{length, replicate}
+use lib.ListN.{length, set, length-set}
 use Rattle.betas.specs.Betas.{darts}
 use Rattle.orbits.specs.Calls.{wiped}
-use Rattle.orbits.proofs.QueueLaws.{queue-none, queue-n}
+use Rattle.orbits.proofs.QueueLaws.{queue-n}
 use Rattle.orbits.proofs.TurnLaws.{fit-same}
-use Rattle.lists.proofs.ListingLaws.{Listing, listing-starts, listing-closed, listing-turn, listing-ends, marks-same, queue-wiped}
+use Rattle.lists.proofs.ListingLaws.{Listing, begun, listing-starts, listing-closed, listing-turn, listing-ends, marks-same, queue-wiped}
 use Rattle.lists.proofs.list_core.Statement.{statement}
 use Rattle.lists.proofs.list_core.Tie as tie
 
@@ -18,10 +17,17 @@ Inv-loop rows written steps marks₀ queue₀ output₀ flags n found₀ count�
 abbrev μ-loop : tie.MeasureT-loop
 μ-loop rows written steps marks₀ queue₀ output₀ flags n found₀ count₀ d₀ marks queue output found count d = darts rows - d
 
+slice-write-marks : tie.Need-slice-write-marks Inv-loop μ-loop
+slice-write-marks c = omega (arith, c .before .before .before .before .before .before .pre .0 .marks-n, c .before .before .before .before .before .before .pre .0 .formed .below 0 0)
+
+slice-write-queue : tie.Need-slice-write-queue Inv-loop μ-loop
+slice-write-queue c = omega (arith, c .before .before .before .before .before .before .pre .0 .out-n, c .before .before .before .before .before .before .pre .0 .formed .below 0 0)
+
 loop-holds : tie.Need-loop-holds Inv-loop μ-loop
 loop-holds c =
     let s = c .before .before .before .before .before .before in
-    listing-starts _ _ _ _ _ _ (s .pre .0 .formed .below) (s .pre .1) (s .pre .0 .marks-n) (queue-none _ _ (s .pre .2))
+    let g = begun (s .args .marks .now) (s .args .queue .now) (s .pre .2) (omega (arith, s .pre .0 .marks-n, s .pre .0 .formed .below 0 0)) (omega (arith, s .pre .0 .marks-n, s .pre .0 .out-n)) in
+    listing-starts _ _ _ _ _ _ (s .pre .0 .formed .below) (s .pre .1) (length-set (s .args .marks .now) 0 1 ∙ s .pre .0 .marks-n) (g .0) (g .1)
 
 cast-x : tie.Need-cast-x Inv-loop μ-loop
 cast-x c = omega (arith, c .before .before .before .before .before .before .before .before .pre .0 .marks-n, c .before .before .before .before .before .before .before .before .pre .0 .formed .sized .few)
@@ -30,12 +36,13 @@ grow-requires : tie.Need-grow-requires Inv-loop μ-loop
 grow-requires c κs =
     let l = c .before .before .before .loop in
     let s = c .before .before .before .before .before .before .before .before .before .before in (
-      fit-same _ _ (s .args .marks .now) (s .args .queue .now) _ _ (s .pre .0) (l .inv .marks-n) (l .inv .queue-same),
+      fit-same _ _ (s .args .marks .now) (s .args .queue .now) _ _ (s .pre .0) (l .inv .marks-n ∙ length-set (s .args .marks .now) 0 1) (l .inv .queue-same ∙ length-set (s .args .queue .now) 0 0),
       l .inv .held,
       l .inv .some,
       omega (arith, c .before .before .loop-test .taken, s .pre .0 .marks-n),
       s .pre .5,
-      listing-closed _ _ (s .args .flags .now) (s .args .marks .now) (s .args .queue .now) (s .args .output .now) (s .pre .0 .formed .below) (s .pre .1) (s .pre .0 .marks-n) _ _ _ _ _ _ (l .inv) (omega (arith, c .before .before .loop-test .taken, s .pre .0 .marks-n)),
+      listing-closed _ _ (s .args .flags .now) (set (s .args .marks .now) 0 1) (set (s .args .queue .now) 0 0) (s .args .output .now) (s .pre .0 .formed .below) (s .pre .1) (length-set (s .args .marks .now) 0 1 ∙ s .pre .0 .marks-n) _ _ _ _ _ _ (l .inv) (omega (arith, c .before .before .loop-test .taken, s .pre .0 .marks-n)),
+      l .inv .null-there,
     )
 
 shared-slice-read-put : tie.Need-shared-slice-read-put Inv-loop μ-loop
@@ -58,21 +65,21 @@ loop-again c =
     let s = c .before .before .before .before .before .before .before .before .before .before .before .before .before .before .before .before .before .before .before .before in
     let g = c .before .before .before .before .before .before .before .before .before .grow in
     let p = c .before .before .put in
-    listing-turn _ _ (s .args .flags .now) (s .args .marks .now) (s .args .queue .now) (s .args .output .now) (s .pre .0 .formed .below) (s .pre .1) (s .pre .0 .marks-n) _ _ _ _ _ _ (l .inv) _ _ _ _ _
+    listing-turn _ _ (s .args .flags .now) (set (s .args .marks .now) 0 1) (set (s .args .queue .now) 0 0) (s .args .output .now) (s .pre .0 .formed .below) (s .pre .1) (length-set (s .args .marks .now) 0 1 ∙ s .pre .0 .marks-n) _ _ _ _ _ _ (l .inv) _ _ _ _ _
     (omega (arith, c .before .before .before .before .before .before .before .before .before .before .before .before .loop-test .taken, s .pre .0 .marks-n))
     (g .kept .1 .1 .1 .0) (g .kept .1 .1 .1 .1 .0) (p .kept .0) (g .ensures) (p .ensures)
 
 wipe-marks-requires : tie.Need-wipe-marks-requires Inv-loop μ-loop
-wipe-marks-requires c κs = omega (arith, c .before .before .loop .inv .marks-n)
+wipe-marks-requires c κs = omega (arith, c .before .before .loop .inv .marks-n, length-set (c .before .before .before .before .before .before .before .before .before .args .marks .now) 0 1)
 
 wipe-queue-requires : tie.Need-wipe-queue-requires Inv-loop μ-loop
-wipe-queue-requires c κs = omega (arith, c .before .before .before .before .before .before .loop .inv .queue-same, c .before .before .before .before .before .before .before .before .before .before .before .before .before .pre .0 .marks-n, c .before .before .before .before .before .before .before .before .before .before .before .before .before .pre .0 .out-n)
+wipe-queue-requires c κs = omega (arith, c .before .before .before .before .before .before .loop .inv .queue-same, length-set (c .before .before .before .before .before .before .before .before .before .before .before .before .before .args .queue .now) 0 0, c .before .before .before .before .before .before .before .before .before .before .before .before .before .pre .0 .marks-n, c .before .before .before .before .before .before .before .before .before .before .before .before .before .pre .0 .out-n)
 
 same-length : tie.Need-same-length Inv-loop μ-loop
-same-length c = c .before .before .before .before .before .before .wipe-marks .kept .0 ∙ c .before .before .before .before .before .before .before .before .before .loop .inv .marks-n
+same-length c = c .before .before .before .before .before .before .wipe-marks .kept .0 ∙ c .before .before .before .before .before .before .before .before .before .loop .inv .marks-n ∙ length-set (c .before .before .before .before .before .before .before .before .before .before .before .before .before .before .before .before .args .marks .now) 0 1
 
 same-length-2 : tie.Need-same-length-2 Inv-loop μ-loop
-same-length-2 c = c .before .before .wipe-queue .kept .0 ∙ c .before .before .before .before .before .before .before .before .before .loop .inv .queue-same
+same-length-2 c = c .before .before .wipe-queue .kept .0 ∙ c .before .before .before .before .before .before .before .before .before .loop .inv .queue-same ∙ length-set (c .before .before .before .before .before .before .before .before .before .before .before .before .before .before .before .before .args .queue .now) 0 0
 
 same-length-3 : tie.Need-same-length-3 Inv-loop μ-loop
 same-length-3 c = c .before .before .before .before .before .before .before .before .before .loop .inv .out-n
@@ -83,10 +90,10 @@ returns c =
     let s = c .before .before .before .before .before .before .before .before .before .before .before .before .before .before .before .before in
     let n : ℕ = length (s .args .marks .now) in
     let e : n ≡ darts (s .args .rows .now) = s .pre .0 .marks-n in
-    let f : l .found ≤ n = omega (arith, queue-n (l .marks) (l .queue) (l .found) (l .inv .held), l .inv .marks-n) in (
-      marks-same n (s .args .marks .now) (l .marks) _ refl (s .pre .2) (l .inv .marks-n) (c .before .before .before .before .before .before .wipe-marks .ensures),
-      queue-wiped n (l .found) (s .args .queue .now) (l .queue) _ f (l .inv .behind) (c .before .before .wipe-queue .ensures) ∙ ap (λ (k : ℕ). wiped k (s .args .queue .now)) e,
-      listing-ends _ _ (s .args .flags .now) (s .args .marks .now) (s .args .queue .now) (s .args .output .now) (s .pre .0 .formed .below) (s .pre .1) (s .pre .0 .marks-n) _ _ _ _ _ _ (l .inv)
+    let f : l .found ≤ n = omega (arith, queue-n (l .marks) (l .queue) (l .found) (l .inv .held), l .inv .marks-n, length-set (s .args .marks .now) 0 1) in (
+      marks-same n (s .args .marks .now) (l .marks) _ refl (s .pre .2) (l .inv .marks-n ∙ length-set (s .args .marks .now) 0 1) (c .before .before .before .before .before .before .wipe-marks .ensures),
+      queue-wiped n (l .found) (s .args .queue .now) (l .queue) _ (omega (arith, s .pre .0 .marks-n, s .pre .0 .formed .below 0 0)) f (l .inv .behind) (c .before .before .wipe-queue .ensures) ∙ ap (λ (k : ℕ). wiped k (s .args .queue .now)) e,
+      listing-ends _ _ (s .args .flags .now) (set (s .args .marks .now) 0 1) (set (s .args .queue .now) 0 0) (s .args .output .now) (s .pre .0 .formed .below) (s .pre .1) (length-set (s .args .marks .now) 0 1 ∙ s .pre .0 .marks-n) _ _ _ _ _ _ (l .inv)
           (omega (arith, c .before .before .before .before .before .before .before .before .loop-test .left, s .pre .0 .marks-n)) (omega (arith, l .inv .few, l .inv .upto, l .inv .out-n, s .pre .3)),
     )
 
@@ -96,6 +103,8 @@ list-core-spec =
     (tie.spec
     Inv-loop
     μ-loop
+    slice-write-marks
+    slice-write-queue
     loop-holds
     cast-x
     grow-requires

@@ -23,28 +23,28 @@ beta-at-requires c κs =
     let v = c .loop .inv .1 in
     omega (arith, v .held .below _ (v .here), v .marks-n, c .before .before .before .before .pre .0 .marks-n, c .before .before .before .before .pre .0 .formed .sized .whole, edge-less (v .by-edge))
 
-push-requires : tie.Need-push-requires Inv-loop μ-loop
-push-requires c κs =
+meet-requires : tie.Need-meet-requires Inv-loop μ-loop
+meet-requires c κs =
     let v = c .before .before .before .loop .inv .1 in
-    (v .held, rw (c .before .before .beta-at .ensures) (omega (arith, v .marks-n, c .before .before .before .before .before .before .before .pre .0 .marks-n, c .before .before .before .before .before .before .before .pre .0 .formed .below (c .before .before .before .loop .by) (c .before .before .before .loop .x))), omega (arith, v .marks-n, v .queue-same, c .before .before .before .before .before .before .before .pre .0 .marks-n, c .before .before .before .before .before .before .before .pre .0 .queue-n))
+    (v .held, rw (c .before .before .beta-at .ensures) (omega (arith, v .marks-n, c .before .before .before .before .before .before .before .pre .0 .marks-n, c .before .before .before .before .before .before .before .pre .0 .formed .below (c .before .before .before .loop .by) (c .before .before .before .loop .x))), omega (arith, v .marks-n, v .queue-same, c .before .before .before .before .before .before .before .pre .0 .marks-n, c .before .before .before .before .before .before .before .pre .0 .queue-n), v .old 0 (c .before .before .before .before .before .before .before .pre .4))
 
 same-length : tie.Need-same-length Inv-loop μ-loop
-same-length c = c .before .before .before .before .before .push .kept .0 ∙ c .before .before .before .before .before .before .before .before .before .loop .inv .1 .marks-n
+same-length c = c .before .before .before .before .before .meet .kept .0 ∙ c .before .before .before .before .before .before .before .before .before .loop .inv .1 .marks-n
 
 same-length-2 : tie.Need-same-length-2 Inv-loop μ-loop
-same-length-2 c = c .before .before .before .before .before .push .kept .1 .0 ∙ c .before .before .before .before .before .before .before .before .before .loop .inv .1 .queue-same
+same-length-2 c = c .before .before .before .before .before .meet .kept .1 .0 ∙ c .before .before .before .before .before .before .before .before .before .loop .inv .1 .queue-same
 
 returns : tie.Need-returns Inv-loop μ-loop
-returns c = following-ends _ (c .before .before .before .before .before .before .before .before .before .before .before .before .before .pre .0 .formed) _ _ _ _ _ _ _ _ _ _ (c .before .before .before .before .before .before .before .before .before .loop .inv .1) _ (c .before .before .before .before .before .before .before .before .beta-at .ensures) _ _ _ (c .before .before .before .before .before .push .kept .0) (c .before .before .before .before .before .push .kept .1 .0) (c .before .before .before .before .before .push .ensures) (c .if1 .taken)
+returns c = following-ends _ (c .before .before .before .before .before .before .before .before .before .before .before .before .before .pre .0 .formed) _ _ _ _ _ _ _ _ _ _ (c .before .before .before .before .before .before .before .before .before .loop .inv .1) _ (c .before .before .before .before .before .before .before .before .beta-at .ensures) _ _ _ (c .before .before .before .before .before .meet .kept .0) (c .before .before .before .before .before .meet .kept .1 .0) (c .before .before .before .before .before .meet .ensures) (c .if1 .taken)
 
 sub-by : tie.Need-sub-by Inv-loop μ-loop
 sub-by c = omega (arith, edge-less (c .before .before .before .before .before .before .before .before .before .loop .inv .1 .by-edge))
 
 loop-less : tie.Need-loop-less Inv-loop μ-loop
-loop-less c = omega (arith, c .before .before .before .before .before .push .ensures .more, c .if1 .left, queue-n _ _ _ (c .before .before .before .before .before .push .ensures .queue), c .before .before .before .before .before .push .kept .0, c .before .before .before .before .before .before .before .before .before .loop .inv .1 .marks-n, c .before .before .before .before .before .before .before .before .before .loop .inv .0)
+loop-less c = omega (arith, c .before .before .before .before .before .meet .ensures .more, c .if1 .left, queue-n _ _ _ (c .before .before .before .before .before .meet .ensures .queue), c .before .before .before .before .before .meet .kept .0, c .before .before .before .before .before .before .before .before .before .loop .inv .1 .marks-n, c .before .before .before .before .before .before .before .before .before .loop .inv .0)
 
 loop-again : tie.Need-loop-again Inv-loop μ-loop
-loop-again c = (c .before .before .before .before .before .before .before .before .before .loop .inv .0, following-turn _ (c .before .before .before .before .before .before .before .before .before .before .before .before .before .pre .0 .formed) _ _ _ _ _ _ _ _ _ _ (c .before .before .before .before .before .before .before .before .before .loop .inv .1) _ (c .before .before .before .before .before .before .before .before .beta-at .ensures) _ _ _ (c .before .before .before .before .before .push .kept .0) (c .before .before .before .before .before .push .kept .1 .0) (c .before .before .before .before .before .push .ensures) (c .if1 .left) _ (omega arith))
+loop-again c = (c .before .before .before .before .before .before .before .before .before .loop .inv .0, following-turn _ (c .before .before .before .before .before .before .before .before .before .before .before .before .before .pre .0 .formed) _ _ _ _ _ _ _ _ _ _ (c .before .before .before .before .before .before .before .before .before .loop .inv .1) _ (c .before .before .before .before .before .before .before .before .beta-at .ensures) _ _ _ (c .before .before .before .before .before .meet .kept .0) (c .before .before .before .before .before .meet .kept .1 .0) (c .before .before .before .before .before .meet .ensures) (c .if1 .left) _ (omega arith))
 
 pub alternate-spec : {M : Type 1} → statement M
-alternate-spec = tie.close (tie.spec Inv-loop μ-loop loop-holds beta-at-requires push-requires same-length same-length-2 returns sub-by loop-less loop-again)
+alternate-spec = tie.close (tie.spec Inv-loop μ-loop loop-holds beta-at-requires meet-requires same-length same-length-2 returns sub-by loop-less loop-again)

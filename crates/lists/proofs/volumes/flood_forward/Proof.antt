@@ -7,6 +7,8 @@ use mathlib.Core.Logic.{⊎-elim}
 use lib.ListN.{length, getD, take}
 use Rattle.betas.specs.Betas.{beta, darts}
 use Rattle.orbits.specs.Steps.{volumeLinear}
+use Rattle.orbits.specs.Search.{In}
+use Rattle.orbits.proofs.SearchLaws.{ext-in, visit-ext}
 use Rattle.orbits.proofs.TurnLaws.{Flooding, flooding-starts, flooding-turn, flooding-ends, dart-below, count-n}
 use Rattle.orbits.proofs.ScratchLaws.{scratch-same}
 use Rattle.lists.proofs.VolumeLaws.{Ahead, ahead-starts, ahead-ended, ahead-visit, ahead-end}
@@ -14,13 +16,13 @@ use Rattle.lists.proofs.volumes.flood_forward.Statement.{statement}
 use Rattle.lists.proofs.volumes.flood_forward.Tie as tie
 
 abbrev Inv-loop : tie.InvT-loop
-Inv-loop rows marks₀ queue₀ from seeds k₀ count₀ ends₀ marks queue k count ends = Flooding rows volumeLinear marks₀ queue₀ from seeds marks queue k count × Ahead rows from k (take count queue) ends
+Inv-loop rows marks₀ queue₀ from seeds k₀ count₀ ends₀ marks queue k count ends = Flooding rows volumeLinear marks₀ queue₀ from seeds marks queue k count × Ahead rows from k (take count queue) ends × In 0 (take count queue)
 
 abbrev μ-loop : tie.MeasureT-loop
 μ-loop rows marks₀ queue₀ from seeds k₀ count₀ ends₀ marks queue k count ends = darts rows - k
 
 loop-holds : tie.Need-loop-holds Inv-loop μ-loop
-loop-holds c = (flooding-starts _ _ _ _ _ _ (c .before .before .before .pre .0 .marks-n) (c .before .before .before .pre .2) (c .before .before .before .pre .1), ahead-starts _ _ _ _)
+loop-holds c = (flooding-starts _ _ _ _ _ _ (c .before .before .before .pre .0 .marks-n) (c .before .before .before .pre .2) (c .before .before .before .pre .1), ahead-starts _ _ _ _, c .before .before .before .pre .3)
 
 mul-e : tie.Need-mul-e Inv-loop μ-loop
 mul-e c = omega (arith, c .before .loop .inv .0 .queue .room, c .before .loop .inv .0 .out-n)
@@ -39,7 +41,7 @@ visit-forward-requires : tie.Need-visit-forward-requires Inv-loop μ-loop
 visit-forward-requires c κs =
     let l = c .before .before .before .before .before .before .loop in
     let s = c .before .before .before .before .before .before .before .before .before .before in
-    (scratch-same _ (s .args .marks .now) (s .args .queue .now) _ _ (s .pre .0) (l .inv .0 .marks-n) (l .inv .0 .out-n), l .inv .0 .queue, below (c .before .before .before .before))
+    (scratch-same _ (s .args .marks .now) (s .args .queue .now) _ _ (s .pre .0) (l .inv .0 .marks-n) (l .inv .0 .out-n), l .inv .0 .queue, below (c .before .before .before .before), l .inv .2)
 
 add-k : tie.Need-add-k Inv-loop μ-loop
 add-k c = omega (arith, c .before .before .before .before .before .before .before .before .before .before .loop-test .taken, c .before .before .before .before .before .before .before .before .before .before .before .loop .inv .0 .queue .room)
@@ -61,6 +63,7 @@ loop-again c =
       ⊎-elim (λ p. ahead-ended _ _ _ _ _ (p .1))
           (λ p. subst (Ahead _ _ _ _) (sym (p .1)) (ahead-visit _ _ _ _ _ _ (c .before .before .before .before .before .before .before .before .before .before .loop-test .taken) (l .inv .0 .queue .room) _ _ _ (v .ensures) (l .inv .1) (λ z. p .0 .left (c .before .before .before .before .before .before .before .before .beta-at .ensures ∙ z))))
           (c .before .before .before .before .before .before .before .if1 .came),
+      rw (v .ensures .front) (ext-in (visit-ext _ _ volumeLinear _) (l .inv .2)),
     )
 
 same-length : tie.Need-same-length Inv-loop μ-loop

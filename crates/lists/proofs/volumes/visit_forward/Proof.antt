@@ -1,6 +1,7 @@
 -- `volumes::visit_forward` meets its contract: a push of each image. Assumes nothing.
 use native.Mathlib.Omega.{arith}
 use mathlib.Core.Path.{_∙_}
+use Rattle.lists.proofs.PushLaws.{grown-there}
 use Rattle.lists.proofs.VolumeLaws.{visited-forward}
 use Rattle.lists.proofs.volumes.visit_forward.Statement.{statement}
 use Rattle.lists.proofs.volumes.visit_forward.Tie as tie
@@ -11,25 +12,25 @@ beta-at-requires c κs = omega (arith, c .before .before .before .pre .0 .formed
 beta-at-requires-2 : tie.Need-beta-at-requires-2
 beta-at-requires-2 c κs = omega (arith, c .before .before .before .before .pre .0 .formed .sized .whole, c .before .before .before .before .pre .2)
 
-push-requires : tie.Need-push-requires
-push-requires c κs =
+meet-requires : tie.Need-meet-requires
+meet-requires c κs =
     let s = c .before .before .before .before .before .before .before in
-    (s .pre .1, rw (c .before .before .before .beta-at .ensures) (omega (arith, s .pre .0 .marks-n, s .pre .0 .formed .below 1 (s .args .d))), omega (arith, s .pre .0 .marks-n, s .pre .0 .queue-n))
+    (s .pre .1, rw (c .before .before .before .beta-at .ensures) (omega (arith, s .pre .0 .marks-n, s .pre .0 .formed .below 1 (s .args .d))), omega (arith, s .pre .0 .marks-n, s .pre .0 .queue-n), s .pre .3)
 
-push-requires-2 : tie.Need-push-requires-2
-push-requires-2 c κs =
+meet-requires-2 : tie.Need-meet-requires-2
+meet-requires-2 c κs =
     let s = c .before .before .before .before .before .before .before .before .before .before .before .before .before .before in
-    let p = c .before .before .before .before .before .before .push in
-    (p .ensures .queue, rw (c .before .before .before .before .before .before .before .before .before .beta-at2 .ensures) (omega (arith, s .pre .0 .marks-n, p .kept .0, s .pre .0 .formed .below 2 (s .args .d))), omega (arith, p .kept .0, p .kept .1 .0, s .pre .0 .marks-n, s .pre .0 .queue-n))
+    let p = c .before .before .before .before .before .before .meet in
+    (p .ensures .queue, rw (c .before .before .before .before .before .before .before .before .before .beta-at2 .ensures) (omega (arith, s .pre .0 .marks-n, p .kept .0, s .pre .0 .formed .below 2 (s .args .d))), omega (arith, p .kept .0, p .kept .1 .0, s .pre .0 .marks-n, s .pre .0 .queue-n), grown-there _ _ _ _ _ _ _ (p .ensures) (s .pre .3))
 
 same-length : tie.Need-same-length
-same-length c = c .before .before .before .before .push2 .kept .0 ∙ c .before .before .before .before .before .before .before .before .before .before .before .push .kept .0
+same-length c = c .before .before .before .before .meet2 .kept .0 ∙ c .before .before .before .before .before .before .before .before .before .before .before .meet .kept .0
 
 same-length-2 : tie.Need-same-length-2
-same-length-2 c = c .before .before .before .before .push2 .kept .1 .0 ∙ c .before .before .before .before .before .before .before .before .before .before .before .push .kept .1 .0
+same-length-2 c = c .before .before .before .before .meet2 .kept .1 .0 ∙ c .before .before .before .before .before .before .before .before .before .before .before .meet .kept .1 .0
 
 returns : tie.Need-returns
-returns c = visited-forward _ _ _ _ _ _ (c .before .before .before .before .before .before .before .before .before .before .before .before .before .before .before .beta-at .ensures) (c .before .before .before .before .before .before .before .before .before .before .before .before .before .before .beta-at2 .ensures) _ _ _ (c .before .before .before .before .before .before .before .before .before .before .before .push .ensures) _ _ _ (c .before .before .before .before .push2 .ensures)
+returns c = visited-forward _ _ _ _ _ _ (c .before .before .before .before .before .before .before .before .before .before .before .before .before .before .before .beta-at .ensures) (c .before .before .before .before .before .before .before .before .before .before .before .before .before .before .beta-at2 .ensures) _ _ _ (c .before .before .before .before .before .before .before .before .before .before .before .meet .ensures) _ _ _ (c .before .before .before .before .meet2 .ensures)
 
 pub visit-forward-spec : {M : Type 1} → statement M
-visit-forward-spec = tie.close (tie.spec beta-at-requires beta-at-requires-2 push-requires push-requires-2 same-length same-length-2 returns)
+visit-forward-spec = tie.close (tie.spec beta-at-requires beta-at-requires-2 meet-requires meet-requires-2 same-length same-length-2 returns)

@@ -1,12 +1,12 @@
--- The laws of the tests of a map: each case of the size test, of a breach (`breaks-..`), of a dart's least breach (`breach-..`), and the turns of
--- the search for the first one (`first-..`). Assumes nothing.
+-- The laws of the tests of a map: each case of the size test, of a breach (`breaks-..`), of an image that breaks no rule (`keeps-..`), of a dart's
+-- least breach (`breach-..`), and the turns of the search for the first one (`first-..`). Assumes nothing.
 use Prim.Native.Nat.{ℕ, zero, suc, _+_, _*_, _-_, _/_, _%_, _<_, _≤_}
 use native.Mathlib.Decide.{ℕ-discrete}
 use native.Mathlib.Omega.{arith}
 use mathlib.Core.Path.{_≡_, refl, sym, ap, _∙_}
 use mathlib.Core.Logic.{_≢_, by-cases}
 use mathlib.Core.List.{List}
-use mathlib.Core.Bool.{Bool, true, false, cond, not, _||_, _&&_, true≢false, or-true, and-true, or-false as or-none}
+use mathlib.Core.Bool.{Bool, true, false, cond, not, _||_, _&&_, true≢false, or-true, and-true, or-false as or-none, and-false as and-none}
 use lib.ListN.{length, getD}
 use lib.Dec.{ltb, leb, eqb}
 use borrow.Author.Tests.{eq-eqb, ne-eqb, lt-ltb, le-ltb, le-leb, lt-leb, eqb-true, eqb-false, ltb-false, not-false}
@@ -100,6 +100,17 @@ module _ (rows : List ℕ) (i d : ℕ) where
   unfolding breaks
   breaks-led j x y ej hi o ex ey h z e =
       simp (← ej, ← ex, ← ey, lt-leb _ _ h, ne-eqb _ _ z, eq-eqb _ _ e, ne-eqb _ _ (led-real j x y ej hi o ey z e), or-none (leb 2 i && eqb x d))
+
+-- an image x of a dart d by beta i that breaks no rule: a null one, and one that leads back
+
+module _ (rows : List ℕ) (i d x : ℕ) where
+  pub keeps-none : x ≡ beta rows i d → x < darts rows → x ≡ 0 → breaks rows i d ≡ false
+  keeps-none ex h z = breaks-null rows i d (rw (sym ex) h) (sym ex ∙ z)
+
+  pub keeps-led : (y : ℕ) → x ≡ beta rows i d → y ≡ beta rows (opp i) x → x < darts rows → d ≢ 0 → y ≡ d → (2 ≤ i → x ≢ d) → breaks rows i d ≡ false
+  unfolding breaks
+  keeps-led y ex ey h z e m =
+      simp (← ex, ← ey, lt-leb _ _ h, ne-eqb _ _ z, no-self i x d m, eq-eqb _ _ e, and-none (not (eqb x 0)))
 
 module _ (rows : List ℕ) (s : Sized rows) (i : ℕ) where
   pub breaks-of-null : beta rows i 0 ≢ 0 → breaks rows i 0 ≡ true

@@ -16,7 +16,13 @@ pub enum Who {
 /// What is measured. Lists and tests are over the whole map, the rest are single calls.
 #[derive(Debug, Clone, Copy, PartialEq, Eq)]
 pub enum Line {
+    /// The sum of all images, which the compiler makes of vector instructions.
     Read,
+    /// The first image that is out of range, of which there is none: what any test reads that names the first fault.
+    ReadEach,
+    /// Setting n marks to 0, and n marks and n places of a queue.
+    ClearMarks,
+    ClearScratch,
     MapTest,
     /// The list of least darts.
     List(Cell),
@@ -37,6 +43,9 @@ pub enum Line {
 }
 
 pub const CELLS: [Cell; 4] = [Cell::Vertex, Cell::Edge, Cell::Face, Cell::Volume];
+
+/// The lines over the whole map, lists aside, in the order of their tables.
+pub const PASSES: [Line; 5] = [Line::Read, Line::ReadEach, Line::ClearMarks, Line::ClearScratch, Line::MapTest];
 
 /// The lines that are single calls.
 pub const CALLS: [Line; 10] = [
@@ -66,6 +75,9 @@ impl Line {
     pub fn name(self) -> String {
         match self {
             Self::Read => "reading the rows once".into(),
+            Self::ReadEach => "reading them image by image".into(),
+            Self::ClearMarks => "clearing n marks".into(),
+            Self::ClearScratch => "clearing n marks and n places".into(),
             Self::MapTest => "map test".into(),
             Self::List(cell) => format!("list of {}", cell_name(cell).1),
             Self::FirstDarts(cell) => format!("first darts of {}", cell_name(cell).1),

@@ -109,8 +109,11 @@ fn measure(times: &mut Times, input: Input, program: Option<&Path>) {
 }
 
 fn machine(cgal: Result<String, String>) -> Machine {
-    let cpu = std::fs::read_to_string("/proc/cpuinfo").unwrap_or_default();
-    let model = cpu.lines().find_map(|line| line.strip_prefix("model name")?.split_once(": ")).map(|(_, name)| name);
+    // lscpu knows the names of Arm's processors too
+    let cpu = Command::new("lscpu")
+        .output()
+        .map_or_else(|_| String::new(), |output| String::from_utf8_lossy(&output.stdout).into_owned());
+    let model = cpu.lines().find_map(|line| line.strip_prefix("Model name:")).map(str::trim);
     let first_line = |program: &str| {
         let output = Command::new(program).arg("--version").output().ok()?;
         String::from_utf8_lossy(&output.stdout).lines().next().map(str::to_string)

@@ -4,7 +4,7 @@ use inkcapper::{Answer, Cell, slices};
 
 use crate::clock::time;
 use crate::grid::Grid;
-use crate::lines::{CALLS, CELLS, Input, Line, Times, Who};
+use crate::lines::{CALLS, CELLS, Input, Line, PASSES, Times, Who};
 
 /// All that a call is lent, at its least size.
 struct Scratch {
@@ -41,29 +41,44 @@ impl Scratch {
 /// What the lists hold, so that others can be held against them.
 pub type Lists = [Vec<u32>; 4];
 
-/// Map test, reading and lists. Each run goes through all lines, so that a busy spell of the machine
-/// falls on all of them.
+/// One pass over the rows or the scratch, and how long it took.
+fn pass(line: Line, rows: &[u32], scratch: &mut Scratch) -> f64 {
+    let n = (rows.len() / 4) as u32;
+    match line {
+        Line::Read => time(|| rows.iter().map(|&word| u64::from(word)).sum::<u64>()),
+        Line::ReadEach => time(|| rows.iter().position(|&word| word >= n)),
+        Line::ClearMarks => time(|| scratch.marks.fill(0)),
+        Line::ClearScratch => time(|| {
+            scratch.marks.fill(0);
+            scratch.queue.fill(0);
+        }),
+        Line::MapTest => time(|| slices::check_map(rows).done().expect("a map")),
+        _ => unreachable!("not a pass"),
+    }
+}
+
+/// Passes and lists. Each run goes through all lines, so that a busy spell of the machine falls on all
+/// of them.
 pub fn whole_map(times: &mut Times, input: Input, rows: &[u32], runs: usize) -> Lists {
     let mut scratch = Scratch::of(rows);
-    let mut found: [Vec<f64>; 6] = Default::default();
     let mut lists = Lists::default();
     for _ in 0..runs {
-        // each after a pass of the same kind, so that neither finds the rows in a cache that the
-        // other did not
-        for _ in 0..2 {
-            found[0].push(time(|| rows.iter().map(|&word| u64::from(word)).sum::<u64>()));
-        }
-        for _ in 0..2 {
-            found[1].push(time(|| slices::check_map(rows).done().expect("a map")));
+        for line in PASSES {
+            // a pass over the rows comes after one of the same kind, so that none finds the rows in a cache that
+            // another did not; scratch is cleared after a pass over the rows, as in a call
+            if matches!(line, Line::ClearMarks | Line::ClearScratch) {
+                pass(Line::MapTest, rows, &mut scratch);
+            } else {
+                times.put(Who::Ours, input, line, &[pass(line, rows, &mut scratch)]);
+            }
+            times.put(Who::Ours, input, line, &[pass(line, rows, &mut scratch)]);
         }
         for (at, cell) in CELLS.into_iter().enumerate() {
             let (took, count) = scratch.list(cell, rows);
-            found[2 + at].push(took);
+            times.put(Who::Ours, input, Line::List(cell), &[took]);
             lists[at] = scratch.output[..count].to_vec();
         }
     }
-    let lines = [Line::Read, Line::MapTest].into_iter().chain(CELLS.map(Line::List));
-    lines.zip(&found).for_each(|(line, found)| times.put(Who::Ours, input, line, found));
     lists
 }
 

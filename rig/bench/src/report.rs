@@ -5,7 +5,7 @@ use std::fmt::Write;
 use inkcapper::Cell;
 
 use crate::clock::{Spread, human};
-use crate::lines::{CALLS, CELLS, Input, Line, Times, Who, cell_name};
+use crate::lines::{CALLS, CELLS, Input, Line, PASSES, Times, Who, cell_name};
 
 /// What the report says of where it was made.
 pub struct Machine {
@@ -87,7 +87,7 @@ impl Report<'_> {
             self.say(format!("\n### {} darts\n", thousands(input.darts())));
             self.say("| line | ours | published Rust | CGAL | Rust / ours | CGAL / ours |");
             self.say("|---|---|---|---|---|---|");
-            for line in [Line::Read, Line::MapTest].into_iter().chain(CELLS.map(Line::List)) {
+            for line in PASSES.into_iter().chain(CELLS.map(Line::List)) {
                 let [ours, text, cgal] = [Who::Ours, Who::Text, Who::Cgal].map(|who| self.peer(who, input, line));
                 self.say(format!(
                     "| {} | {} | {} | {} | {} | {} |",
@@ -104,7 +104,7 @@ impl Report<'_> {
         self.say("Between the smallest and the largest grid a line's time grows as this power of the darts. A power somewhat above 1 is to be expected of a map that outgrows a cache.\n");
         self.say("| line | ours | published Rust | CGAL |");
         self.say("|---|---|---|---|");
-        for line in [Line::Read, Line::MapTest].into_iter().chain(CELLS.map(Line::List)) {
+        for line in PASSES.into_iter().chain(CELLS.map(Line::List)) {
             let [a, b, c] = [Who::Ours, Who::Text, Who::Cgal].map(|who| self.growth(who, line));
             self.say(format!("| {} | {a} | {b} | {c} |", line.name()));
         }
@@ -151,7 +151,7 @@ impl Report<'_> {
         let ring = self.inputs.ring;
         self.say("| line | ours | published Rust | CGAL |");
         self.say("|---|---|---|---|");
-        for line in [Line::Read, Line::MapTest].into_iter().chain(CELLS.map(Line::List)) {
+        for line in PASSES.into_iter().chain(CELLS.map(Line::List)) {
             let [ours, text, cgal] = [Who::Ours, Who::Text, Who::Cgal].map(|who| cell(self.peer(who, ring, line)));
             self.say(format!("| {} | {ours} | {text} | {cgal} |", line.name()));
         }
@@ -217,13 +217,37 @@ impl Report<'_> {
             Some(Ratios::of(self.peer(Who::Cgal, input, Line::MapTest)?, self.ours(input, Line::MapTest)?))
         });
         self.goal("The map test faster than CGAL's `is_valid`", 1.0, &[("is_valid / map test".into(), valid)]);
-        let read = grids.map(|input| {
-            let ratios = Ratios::of(self.ours(input, Line::Read)?, self.ours(input, Line::MapTest)?);
-            Some(Ratios { medians: 3.0 * ratios.medians, leasts: 3.0 * ratios.leasts })
-        });
-        let row = ("three times reading / map test".to_string(), read);
-        self.goal("The map test within three times of reading the rows once", 1.0, &[row]);
+        for (line, how) in [(Line::ReadEach, "image by image"), (Line::Read, "by vector instructions")] {
+            let read = grids.map(|input| {
+                let ratios = Ratios::of(self.ours(input, line)?, self.ours(input, Line::MapTest)?);
+                Some(Ratios { medians: 3.0 * ratios.medians, leasts: 3.0 * ratios.leasts })
+            });
+            let row = ("three times reading / map test".to_string(), read);
+            self.goal(&format!("The map test within three times of reading the rows once, {how}"), 1.0, &[row]);
+        }
         self.promise();
+    }
+
+    /// What a call of ours does beside its line and a peer's does not, each timed apart.
+    fn beside(&self, who: Who, input: Input, line: Line) -> Option<Spread> {
+        let call = CALLS.iter().position(|&call| call == line);
+        let mut beside = match (who, call) {
+            (Who::Cgal, _) => self.peer(who, input, Line::MapTest)?,
+            // the published Rust has no such test, so it is given ours, as timed beside the call
+            (_, Some(at)) => self.ours(input, Line::TestBeside(at))?,
+            _ => self.ours(input, Line::MapTest)?,
+        };
+        let cleared = match line {
+            Line::Orbit(_) => Some(Line::ClearMarks),
+            Line::Id(_) | Line::TwoSew | Line::TwoUnsew => Some(Line::ClearScratch),
+            _ => None,
+        };
+        if let Some(cleared) = cleared {
+            let cleared = self.ours(input, cleared)?;
+            beside.median += cleared.median;
+            beside.least += cleared.least;
+        }
+        Some(beside)
     }
 
     /// Peers' lines with a map test put on top, against ours, which has one inside.
@@ -241,14 +265,9 @@ impl Report<'_> {
                         let reason = if without <= peer.median { "is the reason" } else { "is not the whole reason" };
                         slower.push(format!("{} darts (the map test {reason})", thousands(input.darts())));
                     }
-                    // the published Rust has no such test, so it is given ours, as timed beside the call
-                    let test = match (who, CALLS.iter().position(|&call| call == line)) {
-                        (Who::Cgal, _) => self.peer(who, input, Line::MapTest)?,
-                        (_, Some(at)) => self.ours(input, Line::TestBeside(at))?,
-                        _ => self.ours(input, Line::MapTest)?,
-                    };
-                    peer.median += test.median;
-                    peer.least += test.least;
+                    let beside = self.beside(who, input, line)?;
+                    peer.median += beside.median;
+                    peer.least += beside.least;
                     Some(Ratios::of(peer, ours))
                 });
                 if ratios.iter().any(Option::is_some) {
@@ -260,7 +279,7 @@ impl Report<'_> {
             }
         }
         self.goal("No line slower than a peer's at the same promise", 1.0, &rows);
-        self.say("\nThe same promise is: the map is tested, then the line. A peer's time is its own line plus a map test: for CGAL its `is_valid`; the published Rust has none and is given ours. Against the published Rust a single call is therefore about even by construction. Identifiers and sews also leave n marks and n places of the queue at 0, orbits n marks, links nothing; the published Rust allocates for the cell alone. That part of a call has not been timed apart from noise.");
+        self.say("\nThe same promise is: the map is tested, then the line, and lent scratch is left at 0. A peer's time is its own line plus a map test, for CGAL its `is_valid`; the published Rust has none and is given ours. To a single call the clearing is added which document 01 asks for and a peer does not make, as timed apart: n marks and n places of the queue for identifiers and sews, n marks for orbits, nothing for links. Against the published Rust a single call is therefore about even by construction.");
         let text = if bare.is_empty() {
             "no list is slower than a peer's".to_string()
         } else {
@@ -330,7 +349,7 @@ pub fn summary(times: &Times, inputs: &Inputs) -> String {
             "{:28}{:>10}{:>22}{:>12}{:>12}{:>9}{:>9}",
             "", "ours", "least..most", "Rust", "CGAL", "Rust/", "CGAL/"
         );
-        for line in [Line::Read, Line::MapTest].into_iter().chain(CELLS.map(Line::List)).chain(CALLS) {
+        for line in PASSES.into_iter().chain(CELLS.map(Line::List)).chain(CALLS) {
             let [ours, rust, cgal] = [Who::Ours, Who::Text, Who::Cgal].map(|who| times.against(who, input, line));
             let Some(s) = ours else { continue };
             let short = |s: Option<Spread>| s.map_or("–".into(), |s| human(s.median));

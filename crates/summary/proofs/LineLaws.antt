@@ -6,6 +6,7 @@
 --   listed-line, listed-count   a list in the first places of an output, as a line
 --   class-is, class-fits, class-next   the line of a class, its room, and where it ends
 --   map-is       the five lines of a map
+--   wiped-four, lists-over   the loans of the four lists, one after the other
 use Prim.Native.Nat.{ℕ, zero, suc, _+_, _-_, _*_, _<_, _≤_}
 use native.Mathlib.Omega.{arith}
 use native.Mathlib.Numerals.{add-one}
@@ -13,7 +14,7 @@ use mathlib.Core.Path.{_≡_, refl, sym, ap, _∙_}
 use mathlib.Core.Logic.{_≢_}
 use mathlib.Core.Bool.{Bool, true, false, cond}
 use mathlib.Core.List.{List, [], _∷_, _++_}
-use lib.ListN.{length, getD, drop, length-append}
+use lib.ListN.{length, getD, drop, replicate, length-append}
 use lib.Dec.{eqb}
 use borrow.Author.Tests.{eq-eqb, ne-eqb}
 use Rattle.betas.specs.declared.error.Answer.{Answer}
@@ -21,12 +22,14 @@ use Rattle.betas.specs.declared.error.Told.{Told}
 use Rattle.betas.specs.Answers.{tellOf}
 use Rattle.betas.specs.Betas.{darts}
 use Rattle.orbits.specs.Loans.{Listed}
+use Rattle.orbits.specs.Calls.{wiped}
+use Rattle.orbits.proofs.ScratchLaws.{wiped-back}
 use Rattle.cells.specs.declared.identifiers.Class.{Class}
 use Rattle.cells.specs.declared.identifiers.Class.the-variants.{Vertex, Edge, Face, Volume}
 use Rattle.cells.specs.Cells.{listOf}
 use Rattle.text.specs.Texts.{decimal, put, lay, itemsOf, lineOf}
 use Rattle.text.proofs.TextLaws.{lay-then, lay-next}
-use Rattle.summary.specs.Report.{valueOf, refusedWord, dartsWord, usedWord, verticesWord, edgesWord, facesWord, volumesWord, toldLine, refusedLine, usedUpTo, headLine, classLine, mapText}
+use Rattle.summary.specs.Report.{valueOf, refusedWord, dartsWord, usedWord, verticesWord, edgesWord, facesWord, volumesWord, toldLine, refusedLine, usedUpTo, headLine, classLine, mapText, over, listsOver}
 use Rattle.summary.proofs.Rooms.{value-room, decimal-room, items-front, class-room}
 
 pub value-next : (x : ℕ) (out : List ℕ) (at : ℕ) (o₁ o₂ : List ℕ) (a b : ℕ) → x < 18446744073709551616 →
@@ -182,3 +185,18 @@ map-is rows flags n used out o₁ o₂ o₃ o₄ o₅ a b c d e s m room en eu l
     (lay-then out 0 t₃ cf o₃ o₄ c d (omega arith)
     (lay-then out 0 t₂ ce o₂ o₃ b c (omega arith) (lay-then out 0 t₁ cv o₁ o₂ a b (omega arith) e₁ e₂) e₃) e₄) e₅
     ∙ ap (λ (x : List ℕ). lay out 0 ((((x ++ cv) ++ ce) ++ cf) ++ cs)) p
+
+-- ---- the loans of four lists, one after the other
+
+pub wiped-four : (n : ℕ) (l l₁ l₂ l₃ l₄ : List ℕ) → l₁ ≡ wiped n l → l₂ ≡ wiped n l₁ → l₃ ≡ wiped n l₂ → l₄ ≡ wiped n l₃ → l₄ ≡ wiped n l
+wiped-four n l l₁ l₂ l₃ l₄ a b c d = d ∙ again l₂ l₃ c ∙ again l₁ l₂ b ∙ again l l₁ a
+  where
+    again : (x y : List ℕ) → y ≡ wiped n x → wiped n y ≡ wiped n x
+    again x y e = ap (λ (t : List ℕ). replicate n 0 ++ t) (wiped-back n x y e)
+
+module _ (rows flags o o₁ o₂ o₃ o₄ : List ℕ) where
+  pub lists-over : o₁ ≡ over (listOf Vertex rows flags) o → o₂ ≡ over (listOf Edge rows flags) o₁ → o₃ ≡ over (listOf Face rows flags) o₂ →
+      o₄ ≡ over (listOf Volume rows flags) o₃ → o₄ ≡ listsOver rows flags o
+  unfolding listsOver
+  lists-over a b c d =
+      d ∙ ap (over (listOf Volume rows flags)) (c ∙ ap (over (listOf Face rows flags)) (b ∙ ap (over (listOf Edge rows flags)) a))

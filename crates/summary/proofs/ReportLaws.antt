@@ -6,6 +6,7 @@
 --   rows-are, flags-are, rows-n, flags-n, formed   the parts of the loans that are lent on: the image's rows and flags
 --   done-is        the report of an image that is read
 --   more-is        the report of an input that is too long
+--   left-refused, left-done, left-more   what the report leaves in its other loans, case by case
 use Prim.Native.Nat.{ℕ, _+_, _*_, _/_, _<_, _≤_}
 use native.Mathlib.Omega.{arith}
 use mathlib.Core.Path.{_≡_, refl, sym, ap, _∙_}
@@ -31,8 +32,9 @@ use Rattle.image.specs.Tests.{readerLoans, loansTest, blocksTest, imageTest}
 use Rattle.image.specs.Content.{flagsOf}
 use Rattle.image.specs.Reads.{Read, left, wrote, testOf, readWithin, Accepted}
 use Rattle.image.proofs.Accepted.{loans-pass, accepted-by}
+use Rattle.orbits.specs.Calls.{wiped}
 use Rattle.text.specs.Texts.{put, lay}
-use Rattle.summary.specs.Report.{refusedLine, mapText, answerOf, imageText, reportOf}
+use Rattle.summary.specs.Report.{refusedLine, mapText, answerOf, imageText, reportOf, listsOver, leaves, reportLeaves}
 
 module _ (bytes flags vertices : List ℕ) (coordinates : List Float) (rows : List ℕ) (rf : 1024 ≤ length flags) (rv : 1024 ≤ length vertices) (rc : 3072 ≤ length coordinates) (rr : 4096 ≤ length rows) where
   abbrev test : Answer
@@ -80,6 +82,15 @@ module _ (bytes flags vertices : List ℕ) (coordinates : List Float) (rows : Li
         let q : isDone (answerOf bytes) ≡ false = sym tested ∙ d in
         ap refusedLine (refused-answer d) ∙ simp (em, q)
 
+    -- a refusal leaves all loans as they were
+    pub left-refused : (m : Bool) → m ≡ false → isDone a ≡ false → (marks queue output : List ℕ) → leaves f v c r marks queue output ≡ reportLeaves m bytes flags vertices coordinates rows marks queue output
+    unfolding readWithin reportLeaves
+    left-refused m em d marks queue output =
+        let q : isDone test ≡ false = ap isDone test-is ∙ sym tested ∙ d in
+        let s : left a f v c r ≡ left test flags vertices coordinates rows = e ∙ simp q in
+        let k : isDone (answerOf bytes) ≡ false = sym tested ∙ d in
+        ap (λ (x : Read). leaves (x .flags) (x .vertices) (x .coordinates) (x .rows) marks queue output) s ∙ simp (em, k)
+
     module _ (d : isDone a ≡ true) where
       passed : isDone test ≡ true
       passed = ap isDone test-is ∙ sym tested ∙ d
@@ -118,6 +129,30 @@ module _ (bytes flags vertices : List ℕ) (coordinates : List Float) (rows : Li
       done-is m em n en =
           let q : isDone (answerOf bytes) ≡ true = sym tested ∙ d in
           ap (λ (x : List ℕ). mapText x (take n f)) (rows-are n en) ∙ ap (mapText (rowsOf bytes (dartsOf bytes))) (flags-are n en) ∙ simp (em, q)
+
+      -- an image that is read leaves what the reader wrote, and what the lists leave
+      pub left-done : (m : Bool) → m ≡ false → (n : ℕ) → n ≡ dartsOf bytes → (marks queue output marks′ queue′ output′ : List ℕ) →
+          marks′ ≡ wiped (darts (take (4 * n) r)) marks → queue′ ≡ wiped (darts (take (4 * n) r)) queue → output′ ≡ listsOver (take (4 * n) r) (take n f) output →
+          leaves f v c r marks′ queue′ output′ ≡ reportLeaves m bytes flags vertices coordinates rows marks queue output
+      unfolding reportLeaves
+      left-done m em n en marks queue output marks′ queue′ output′ a-is b-is c-is =
+          let k : isDone (answerOf bytes) ≡ true = sym tested ∙ d in
+          let n-is : darts (take (4 * n) r) ≡ dartsOf bytes = omega (arith, rows-n n en) in
+          let m-is : marks′ ≡ wiped (dartsOf bytes) marks = a-is ∙ ap (λ (i : ℕ). wiped i marks) n-is in
+          let q-is : queue′ ≡ wiped (dartsOf bytes) queue = b-is ∙ ap (λ (i : ℕ). wiped i queue) n-is in
+          let o-is : output′ ≡ listsOver (rowsOf bytes (dartsOf bytes)) (flagsOf bytes (dartsOf bytes)) output =
+          c-is
+          ∙ ap (λ (x : List ℕ). listsOver x (take n f) output) (rows-are n en)
+          ∙ ap (λ (x : List ℕ). listsOver (rowsOf bytes (dartsOf bytes)) x output) (flags-are n en) in
+          ap (λ (x : Read). leaves (x .flags) (x .vertices) (x .coordinates) (x .rows) marks′ queue′ output′) written
+          ∙ (λ t. leaves (wrote bytes (dartsOf bytes) (verticesOf bytes) flags vertices coordinates rows .flags) (wrote bytes (dartsOf bytes) (verticesOf bytes) flags vertices coordinates rows .vertices) (wrote bytes (dartsOf bytes) (verticesOf bytes) flags vertices coordinates rows .coordinates) (wrote bytes (dartsOf bytes) (verticesOf bytes) flags vertices coordinates rows .rows) (m-is t) (q-is t) (o-is t))
+          ∙ simp (em, k)
+
+-- input that is too long leaves all loans as they were
+pub left-more : (bytes : List ℕ) (m : Bool) → m ≡ true → (flags vertices : List ℕ) (coordinates : List Float) (rows marks queue output : List ℕ) →
+    leaves flags vertices coordinates rows marks queue output ≡ reportLeaves m bytes flags vertices coordinates rows marks queue output
+unfolding reportLeaves
+left-more bytes m e flags vertices coordinates rows marks queue output = simp e
 
 pub more-is : (bytes : List ℕ) (m : Bool) → m ≡ true → refusedLine (Refused (BadImage 2)) ≡ reportOf m bytes
 unfolding reportOf

@@ -10,10 +10,13 @@
 --   answerOf bytes       the reader's answer to an image of at most `most` darts, its loans long enough
 --   imageText bytes      the text of an image: five lines, or one that says what refuses it
 --   reportOf more bytes  the whole report; `more` says that the input has more than 46,080 bytes
+--   over, listsOver      a list over an output's first places; the four lists, each over the one before it
+--   Left, leaves, reportLeaves   what the report leaves in its other loans
 use Prim.Native.Nat.{ℕ, zero, suc, _+_, _-_}
 use mathlib.Core.List.{List, [], _∷_, _++_}
-use mathlib.Core.Bool.{Bool, cond}
-use lib.ListN.{length, getD}
+use mathlib.Core.Bool.{Bool, cond, not, _&&_}
+use lib.ListN.{length, getD, drop}
+use lib.Ieee.{Float}
 use lib.Dec.{eqb}
 use Rattle.betas.specs.declared.error.Answer.{Answer}
 use Rattle.betas.specs.declared.error.Answer.the-variants.{Refused}
@@ -25,6 +28,8 @@ use Rattle.stored.specs.Form.{dartsOf, verticesOf, rowsOf}
 use Rattle.stored.specs.Tests.{headerTest}
 use Rattle.image.specs.Tests.{blocksTest}
 use Rattle.image.specs.Content.{flagsOf}
+use Rattle.image.specs.Reads.{wrote}
+use Rattle.orbits.specs.Calls.{wiped}
 use Rattle.cells.specs.declared.identifiers.Class.{Class}
 use Rattle.cells.specs.declared.identifiers.Class.the-variants.{Vertex, Edge, Face, Volume}
 use Rattle.cells.specs.Cells.{listOf}
@@ -98,3 +103,36 @@ imageText bytes =
 -- "longer input is BadImage 2 before all else"
 unfoldable pub reportOf : Bool → List ℕ → List ℕ
 reportOf more bytes = cond more (refusedLine (Refused (BadImage 2))) (imageText bytes)
+
+-- ---- what the report leaves in its other loans
+
+-- a list over an output's first places
+abbrev pub over : List ℕ → List ℕ → List ℕ
+over l out = l ++ drop (length l) out
+
+-- the lists of the four classes, each over the one before it
+unfoldable pub listsOver : List ℕ → List ℕ → List ℕ → List ℕ
+listsOver rows flags out =
+    over (listOf Volume rows flags) (over (listOf Face rows flags) (over (listOf Edge rows flags) (over (listOf Vertex rows flags) out)))
+
+pub record Left : Type 0 where
+  pub flags : List ℕ
+  pub vertices : List ℕ
+  pub coordinates : List Float
+  pub rows : List ℕ
+  pub marks : List ℕ
+  pub queue : List ℕ
+  pub output : List ℕ
+
+abbrev pub leaves : List ℕ → List ℕ → List Float → List ℕ → List ℕ → List ℕ → List ℕ → Left
+leaves flags vertices coordinates rows marks queue output =
+    record { flags = flags; vertices = vertices; coordinates = coordinates; rows = rows; marks = marks; queue = queue; output = output }
+
+-- an image that is read leaves what the reader writes, scratch at 0 on its first n places, and the lists; any other leaves all as it was
+unfoldable pub reportLeaves : Bool → List ℕ → List ℕ → List ℕ → List Float → List ℕ → List ℕ → List ℕ → List ℕ → Left
+reportLeaves more bytes flags vertices coordinates rows marks queue output =
+    let n = dartsOf bytes in
+    let read = wrote bytes n (verticesOf bytes) flags vertices coordinates rows in
+    cond (not more && isDone (answerOf bytes))
+    (leaves (read .flags) (read .vertices) (read .coordinates) (read .rows) (wiped n marks) (wiped n queue) (listsOver (rowsOf bytes n) (flagsOf bytes n) output))
+    (leaves flags vertices coordinates rows marks queue output)

@@ -16,7 +16,8 @@ ghost use lib.ListN.{length};
 ghost use Rattle.betas.specs.Betas.{darts};
 ghost use Rattle.betas.specs.Maps.{WellFormed};
 ghost use Rattle.text.specs.Texts.{put, lay};
-ghost use Rattle.summary.specs.Report.{mapText, reportOf};
+ghost use Rattle.summary.specs.Report.{mapText, reportOf, listsOver, leaves, reportLeaves};
+ghost use Rattle.orbits.specs.Calls.{wiped};
 
 // The most darts of an image that the report takes.
 pub const MOST: u32 = 1024;
@@ -32,6 +33,7 @@ fn put_map(
 ) -> usize
     requires { ⌜ WellFormed (now rows) × (darts (now rows) ≤ 1024) × (1024 ≤ length (now marks)) × (1024 ≤ length (now queue)) × (1024 ≤ length (now out)) × (darts (now rows) ≤ length (now flags)) × (24576 ≤ length (now text)) ⌝ }
     ensures { λ r. ⌜ (put r (now (text .exit)) ≡ lay (now (text .entry)) 0 (mapText (now (rows .entry)) (now (flags .entry)))) × (r ≤ 24576) ⌝ }
+    ensures { λ r. ⌜ (now (marks .exit) ≡ wiped (darts (now (rows .entry))) (now (marks .entry))) × (now (queue .exit) ≡ wiped (darts (now (rows .entry))) (now (queue .entry))) × (now (out .exit) ≡ listsOver (now (rows .entry)) (now (flags .entry)) (now (out .entry))) ⌝ }
 {
     let n = rows.len() / 4;
     let vertex = Class::Vertex;
@@ -61,6 +63,7 @@ pub fn report_text(
 ) -> usize
     requires { ⌜ (1024 ≤ length (now flags)) × (1024 ≤ length (now vertices)) × (3072 ≤ length (now coordinates)) × (4096 ≤ length (now rows)) × (1024 ≤ length (now marks)) × (1024 ≤ length (now queue)) × (1024 ≤ length (now output)) × (24576 ≤ length (now text)) ⌝ }
     ensures { λ r. ⌜ (put r (now (text .exit)) ≡ lay (now (text .entry)) 0 (reportOf more (now (bytes .entry)))) × (r ≤ 24576) ⌝ }
+    ensures { λ r. ⌜ leaves (now (flags .exit)) (now (vertices .exit)) (now (coordinates .exit)) (now (rows .exit)) (now (marks .exit)) (now (queue .exit)) (now (output .exit)) ≡ reportLeaves more (now (bytes .entry)) (now (flags .entry)) (now (vertices .entry)) (now (coordinates .entry)) (now (rows .entry)) (now (marks .entry)) (now (queue .entry)) (now (output .entry)) ⌝ }
 {
     if more {
         return put_refusal(text, 0, Answer::Refused(Refusal::BadImage(2)));

@@ -52,7 +52,7 @@ array-share-prefix-text : tie.Need-array-share-prefix-text
 array-share-prefix-text c = search needs
 
 slice-aggregate-write-all-3 : tie.Need-slice-aggregate-write-all-3
-slice-aggregate-write-all-3 c = sym (length-take-le (c .before .before .before .before .before .before .before .before .before .before .before .before .before .before .report-text .result) (c .before .before .before .before .before .before .before .before .before .before .before .before .before .before .report-text .last .1 .1 .1 .1 .1 .1 .1 .1 .1 .0) (omega (arith, c .before .before .before .before .before .before .before .before .before .before .before .before .before .before .report-text .ensures .1, c .before .before .before .before .before .before .before .before .before .before .before .before .before .before .report-text .kept .1 .1 .1 .1 .1 .1 .1 .1 .1 .0)))
+slice-aggregate-write-all-3 c = sym (length-take-le (c .before .before .before .before .before .before .before .before .before .before .before .before .before .before .report-text .result) (c .before .before .before .before .before .before .before .before .before .before .before .before .before .before .report-text .last .1 .1 .1 .1 .1 .1 .1 .1 .1 .0) (omega (arith, c .before .before .before .before .before .before .before .before .before .before .before .before .before .before .report-text .ensures .0 .1, c .before .before .before .before .before .before .before .before .before .before .before .before .before .before .report-text .kept .1 .1 .1 .1 .1 .1 .1 .1 .1 .0)))
 
 write-all-requires-3 : tie.Need-write-all-requires-3
 write-all-requires-3 c κs = search needs

@@ -37,7 +37,7 @@ array-share-prefix-text : tie.Need-array-share-prefix-text
 array-share-prefix-text c = search needs
 
 slice-aggregate-judged : tie.Need-slice-aggregate-judged
-slice-aggregate-judged c = sym (length-take-le (c .before .before .before .before .before .before .before .before .before .report-text .result) (c .before .before .before .before .before .before .before .before .before .report-text .last .1 .1 .1 .1 .1 .1 .1 .1 .1 .0) (omega (arith, c .before .before .before .before .before .before .before .before .before .report-text .ensures .1, c .before .before .before .before .before .before .before .before .before .report-text .kept .1 .1 .1 .1 .1 .1 .1 .1 .1 .0)))
+slice-aggregate-judged c = sym (length-take-le (c .before .before .before .before .before .before .before .before .before .report-text .result) (c .before .before .before .before .before .before .before .before .before .report-text .last .1 .1 .1 .1 .1 .1 .1 .1 .1 .0) (omega (arith, c .before .before .before .before .before .before .before .before .before .report-text .ensures .0 .1, c .before .before .before .before .before .before .before .before .before .report-text .kept .1 .1 .1 .1 .1 .1 .1 .1 .1 .0)))
 
 judged-requires : tie.Need-judged-requires
 judged-requires c κs = search needs

@@ -5,18 +5,18 @@
 -- Assumes nothing.
 use Prim.Native.Nat.{ℕ, _<_, _≤_}
 use native.Mathlib.Omega.{arith}
-use mathlib.Core.Path.{_≡_, refl, sym, ap, _∙_}
+use mathlib.Core.Path.{_≡_, refl, ap, _∙_}
 use mathlib.Core.Logic.{_≢_}
 use mathlib.Core.List.{List}
 use mathlib.Core.Bool.{Bool, true, false}
 use lib.ListN.{length}
-use Rattle.betas.specs.Betas.{cell, beta, darts, opp}
+use Rattle.betas.specs.Betas.{beta, darts, opp}
 use Rattle.betas.specs.Answers.{Out, isDone}
 use Rattle.betas.specs.Maps.{WellFormed}
 use Rattle.betas.specs.Guards.{Dart}
 use Rattle.betas.specs.Cores.{linkCore, unlinkCore}
 use Rattle.betas.proofs.BetaLaws.{opp-lt}
-use Rattle.betas.proofs.Stores.{paired, pair-length}
+use Rattle.betas.proofs.Stores.{pair-length}
 use Rattle.betas.proofs.Kept.{link-pair, link-keeps, link-changes, link-refused, unlink-pair, unlink-keeps, unlink-changes, unlink-refused}
 
 module _ (rows : List ℕ) (i l r : ℕ) (w : WellFormed rows) (h₁ : 1 ≤ i) (h₄ : i < 4) (dl : Dart (darts rows) 1 l) (dr : Dart (darts rows) 1 r) where

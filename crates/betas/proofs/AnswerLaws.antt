@@ -3,7 +3,7 @@
 use Prim.Native.Nat.{ℕ}
 use mathlib.Core.Path.{_≡_, refl, sym, ap, _∙_}
 use mathlib.Core.List.{List}
-use mathlib.Core.Bool.{Bool, true, false, cond, true≢false}
+use mathlib.Core.Bool.{true, false, true≢false}
 use Rattle.betas.specs.declared.error.Answer.{Answer}
 use Rattle.betas.specs.declared.error.Answer.the-variants.{Done, Refused}
 use Rattle.betas.specs.Answers.{isDone, andThen, Out, out, guarded}

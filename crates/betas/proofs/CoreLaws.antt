@@ -1,14 +1,14 @@
 -- Each case of the cores, with the values as the code reads them. Assumes nothing.
 use Prim.Native.Nat.{ℕ, _≤_}
-use mathlib.Core.Path.{_≡_, refl, sym, ap, _∙_}
+use mathlib.Core.Path.{_≡_, sym, ap, _∙_}
 use mathlib.Core.Logic.{_≢_}
 use mathlib.Core.List.{List}
 use lib.ListN.{set}
 use borrow.Author.Tests.{eq-eqb, ne-eqb, le-leb}
 use Rattle.betas.specs.declared.error.Answer.the-variants.{Done, Refused}
 use Rattle.betas.specs.declared.error.Refusal.the-variants.{NonFreeBase, NonFreeImage, AlreadyFree}
-use Rattle.betas.specs.Betas.{cell, beta, opp, put, cut}
-use Rattle.betas.specs.Answers.{Out, out, pass}
+use Rattle.betas.specs.Betas.{cell, beta, opp}
+use Rattle.betas.specs.Answers.{out, pass}
 use Rattle.betas.specs.Cores.{linkCore, unlinkCore}
 use Rattle.betas.proofs.BetaLaws.{no-self, opp-high}
 

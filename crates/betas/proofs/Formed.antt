@@ -6,14 +6,13 @@ use mathlib.Core.Path.{_≡_, refl, sym, ap, _∙_}
 use mathlib.Core.Logic.{_≢_, _↔_, by-cases}
 use mathlib.Core.List.{List}
 use mathlib.Core.Bool.{Bool, true, false, cond, not, true≢false}
-use lib.ListN.{length, getD, List·getD-eq-default}
-use lib.Dec.{ltb, eqb}
+use lib.ListN.{length, List·getD-eq-default}
+use lib.Dec.{ltb}
 use borrow.Author.Tests.{eq-eqb, eqb-true, not-false, ltb-false, le-ltb}
-use Rattle.betas.specs.declared.error.Answer.{Answer}
-use Rattle.betas.specs.declared.error.Answer.the-variants.{Done, Refused}
-use Rattle.betas.specs.declared.error.Refusal.the-variants.{BadSize, NotAMap}
+use Rattle.betas.specs.declared.error.Answer.the-variants.{Refused}
+use Rattle.betas.specs.declared.error.Refusal.the-variants.{BadSize}
 use Rattle.betas.specs.Betas.{cell, beta, darts, opp}
-use Rattle.betas.specs.Answers.{pass, isDone, andThen}
+use Rattle.betas.specs.Answers.{pass, isDone}
 use Rattle.betas.specs.Maps.{Sized, badSize, sizeTest, breaks, breachAt, firstBreach, mapTest, checkMap, WellFormed}
 use Rattle.betas.proofs.AnswerLaws.{first-done, then-done}
 use Rattle.betas.proofs.MapLaws.{sized, size-good, breaks-far, breaks-null, breaks-dart0, breaks-fixed, breaks-back, breach-clean, breach-none}

@@ -1,20 +1,17 @@
 -- The laws of the guard: each case of the loan test (`loan-..`) and of the dart test (`dart-..`), and what holds once the guard has passed
 -- (`ready`). Assumes nothing.
-use Prim.Native.Nat.{ℕ, _+_, _*_, _<_, _≤_}
-use native.Mathlib.Omega.{arith}
-use mathlib.Core.Path.{_≡_, refl, sym, ap, _∙_}
+use Prim.Native.Nat.{ℕ, _*_, _<_, _≤_}
+use mathlib.Core.Path.{_≡_, refl, sym}
 use mathlib.Core.List.{List}
 use mathlib.Core.Bool.{Bool, true, false, cond, _||_, true≢false}
 use lib.Dec.{ltb, leb}
-use lib.ListN.{length}
 use borrow.Author.Tests.{lt-ltb, le-ltb, le-leb, lt-leb, ltb-false, leb-false}
-use Rattle.betas.specs.declared.error.Answer.{Answer}
-use Rattle.betas.specs.declared.error.Answer.the-variants.{Done, Refused}
+use Rattle.betas.specs.declared.error.Answer.the-variants.{Refused}
 use Rattle.betas.specs.declared.error.Refusal.the-variants.{ShortLoan, BadDart}
 use Rattle.betas.specs.declared.guard.Loans.{Loans}
 use Rattle.betas.specs.Betas.{darts}
-use Rattle.betas.specs.Answers.{pass, isDone, andThen}
-use Rattle.betas.specs.Maps.{sizeTest, mapTest, WellFormed}
+use Rattle.betas.specs.Answers.{pass, isDone}
+use Rattle.betas.specs.Maps.{sizeTest, mapTest}
 use Rattle.betas.specs.Guards.{loanTest, noDart, dartTest, guardOf, Lent, Dart, Ready}
 use Rattle.betas.proofs.AnswerLaws.{first-done, then-done}
 use Rattle.betas.proofs.Formed.{formed-done}

@@ -12,16 +12,14 @@ use native.Mathlib.Decide.{decLt, ℕ-discrete}
 use mathlib.Core.Path.{_≡_, refl, sym, ap, _∙_}
 use mathlib.Core.Logic.{_≢_, by-cases}
 use mathlib.Core.List.{List}
-use mathlib.Core.Bool.{Bool, true, false, cond, true≢false}
-use lib.ListN.{length, set}
+use mathlib.Core.Bool.{true, false, true≢false}
 use Rattle.betas.specs.declared.error.Answer.{Answer}
-use Rattle.betas.specs.declared.error.Answer.the-variants.{Done, Refused}
+use Rattle.betas.specs.declared.error.Answer.the-variants.{Done}
 use Rattle.betas.specs.Betas.{cell, beta, darts, opp}
 use Rattle.betas.specs.Answers.{Out, out, pass, isDone}
-use Rattle.betas.specs.Maps.{Sized, WellFormed}
+use Rattle.betas.specs.Maps.{WellFormed}
 use Rattle.betas.specs.Guards.{Dart}
 use Rattle.betas.specs.Cores.{linkCore, unlinkCore}
-use Rattle.betas.proofs.BetaLaws.{opp-lt, opp-opp}
 use Rattle.betas.proofs.CoreLaws.{link-base, link-image, link-self, link-done, unlink-free, unlink-done}
 use Rattle.betas.proofs.Stores.{Pair, paired, image-l, image-r, image-other, pair-kept, pair-back}
 

@@ -5,10 +5,9 @@ use Prim.Native.Nat.{ℕ}
 use mathlib.Core.List.{List}
 use mathlib.Core.Bool.{cond, not, _&&_, _||_}
 use lib.Dec.{leb, eqb}
-use lib.ListN.{set}
 use Rattle.betas.specs.declared.error.Answer.the-variants.{Done, Refused}
 use Rattle.betas.specs.declared.error.Refusal.the-variants.{NonFreeBase, NonFreeImage, AlreadyFree}
-use Rattle.betas.specs.Betas.{cell, beta, opp, put, cut}
+use Rattle.betas.specs.Betas.{beta, opp, put, cut}
 use Rattle.betas.specs.Answers.{Out, out, pass}
 
 -- "base not i-free gives 6 with (i, l, r); else image not free, or l = r with i 2 or 3, gives 7.

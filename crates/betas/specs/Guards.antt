@@ -5,7 +5,7 @@
 --   dartTest n least a b   refuses the first dart that is below `least` or no dart of n
 --   guardOf            all tests of a call on a map
 --   Lent, Dart, Ready  what holds once they have passed (`proofs/GuardLaws.antt`)
-use Prim.Native.Nat.{ℕ, _+_, _*_, _<_, _≤_}
+use Prim.Native.Nat.{ℕ, _*_, _<_, _≤_}
 use mathlib.Core.List.{List}
 use mathlib.Core.Bool.{Bool, cond, _||_}
 use lib.Dec.{ltb, leb}

@@ -8,17 +8,17 @@
 --   mapTest rows       refuses the first breach of all
 --   checkMap rows      both tests
 --   WellFormed rows    the rules as laws; `proofs/Formed.antt` has that both tests pass exactly where they hold
-use Prim.Native.Nat.{ℕ, zero, suc, _+_, _*_, _/_, _%_, _<_, _≤_}
+use Prim.Native.Nat.{ℕ, zero, suc, _+_, _*_, _%_, _<_, _≤_}
 use mathlib.Core.Path.{_≡_}
 use mathlib.Core.Logic.{_≢_}
 use mathlib.Core.List.{List}
 use mathlib.Core.Bool.{Bool, cond, not, _&&_, _||_}
-use lib.ListN.{length, getD}
+use lib.ListN.{length}
 use lib.Dec.{ltb, leb, eqb}
 use Rattle.betas.specs.declared.error.Answer.{Answer}
 use Rattle.betas.specs.declared.error.Answer.the-variants.{Refused}
 use Rattle.betas.specs.declared.error.Refusal.the-variants.{BadSize, NotAMap}
-use Rattle.betas.specs.Betas.{cell, beta, darts, opp}
+use Rattle.betas.specs.Betas.{beta, darts, opp}
 use Rattle.betas.specs.Answers.{pass, andThen}
 
 -- "1 <= n <= 1,048,576"

@@ -6,8 +6,8 @@ use crate::error::is_done;
 use crate::guard::dart_test;
 use crate::structure::size_test;
 ghost use mathlib.Core.Path.{_≡_};
-ghost use Prim.Native.Nat.{ℕ, _+_, _*_, _/_, _≤_, _<_};
-ghost use lib.ListN.{length, getD};
+ghost use Prim.Native.Nat.{_+_, _*_, _/_, _<_};
+ghost use lib.ListN.{length};
 ghost use Rattle.betas.specs.Betas.{beta};
 ghost use Rattle.betas.specs.Reads.{readTest, betaRead, iFree, freeAt, isFree, yes};
 

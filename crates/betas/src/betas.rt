@@ -2,8 +2,8 @@
 use crate::error::Answer;
 use crate::error::Refusal;
 ghost use mathlib.Core.Path.{_≡_};
-ghost use Prim.Native.Nat.{ℕ, _+_, _*_, _/_, _≤_, _<_};
-ghost use lib.ListN.{length, getD, set};
+ghost use Prim.Native.Nat.{_+_, _*_, _≤_, _<_};
+ghost use lib.ListN.{length, set};
 ghost use Rattle.betas.specs.Betas.{beta, cell, opp};
 ghost use Rattle.betas.specs.Answers.{out};
 ghost use Rattle.betas.specs.Cores.{linkCore, unlinkCore};

@@ -5,8 +5,7 @@ use crate::error::is_done;
 use crate::structure::map_test;
 use crate::structure::size_test;
 ghost use mathlib.Core.Path.{_≡_};
-ghost use Prim.Native.Nat.{ℕ, _+_, _*_, _/_, _≤_, _<_};
-ghost use lib.ListN.{length};
+ghost use Prim.Native.Nat.{_*_, _/_, _≤_, _<_};
 ghost use Rattle.betas.specs.Guards.{noLoans, scratchOf, loanTest, dartTest, guardOf};
 
 // The lengths of the loans that a call has; a loan that it has not counts as `ENOUGH`.

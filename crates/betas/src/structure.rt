@@ -6,8 +6,8 @@ use crate::error::Refusal;
 use crate::error::is_done;
 ghost use mathlib.Core.Path.{_≡_};
 ghost use mathlib.Core.Bool.{true, false};
-ghost use Prim.Native.Nat.{ℕ, _+_, _*_, _/_, _≤_, _<_};
-ghost use lib.ListN.{length, getD};
+ghost use Prim.Native.Nat.{_+_, _*_, _/_, _≤_, _<_};
+ghost use lib.ListN.{length};
 ghost use Rattle.betas.specs.Betas.{beta, darts};
 ghost use Rattle.betas.specs.Maps.{Sized, NullRow, sizeTest, breaks, breachAt, mapTest, checkMap};
 

@@ -4,7 +4,7 @@ use mathlib.Core.Path.{_≡_, refl}
 use mathlib.Core.List.{List, [], _∷_}
 use lib.ListN.{replicate}
 use Rattle.betas.specs.declared.error.Answer.the-variants.{Done, Refused}
-use Rattle.betas.specs.declared.error.Refusal.the-variants.{BadSize, ShortLoan, NotAMap, BadDart}
+use Rattle.betas.specs.declared.error.Refusal.the-variants.{ShortLoan, NotAMap, BadDart}
 use Rattle.betas.specs.Maps.{badSize, breaks, breachAt, firstBreach, mapTest}
 use Rattle.betas.specs.Guards.{loanTest, noDart, guardOf}
 use Rattle.orbits.specs.Steps.{image}

@@ -7,10 +7,9 @@
 --   listed-exactly, listed-ascending        what a list holds, and that it ascends
 -- Assumes nothing.
 use Prim.Native.Nat.{ℕ, _≤_, _<_}
-use mathlib.Core.Path.{_≡_, refl, sym, ap, _∙_, subst}
+use mathlib.Core.Path.{_≡_, sym, subst}
 use mathlib.Core.Logic.{_↔_}
 use mathlib.Core.List.{List}
-use lib.ListN.{length}
 use Rattle.betas.specs.Betas.{darts}
 use Rattle.betas.specs.Maps.{WellFormed}
 use Rattle.orbits.specs.declared.policy.OrbitPolicy.{OrbitPolicy}

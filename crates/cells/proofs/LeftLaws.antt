@@ -6,7 +6,7 @@
 --   ident-class, list-class     the class that a match has found
 -- Assumes nothing.
 use Prim.Native.Nat.{ℕ}
-use mathlib.Core.Path.{_≡_, refl, sym, ap, _∙_}
+use mathlib.Core.Path.{_≡_, sym, ap, _∙_}
 use mathlib.Core.Bool.{true, false}
 use mathlib.Core.List.{List}
 use lib.ListN.{length}
@@ -17,7 +17,7 @@ use Rattle.betas.specs.Answers.{isDone}
 use Rattle.betas.specs.Guards.{scratchOf, Ready}
 use Rattle.betas.proofs.GuardLaws.{ready}
 use Rattle.orbits.specs.Loans.{Listed}
-use Rattle.orbits.specs.Calls.{wiped, written}
+use Rattle.orbits.specs.Calls.{wiped}
 use Rattle.cells.specs.declared.identifiers.Class.{Class}
 use Rattle.cells.specs.Cells.{identOf, listOf}
 use Rattle.cells.specs.Calls.{IdLeft, idLeft, idDone, idGuard, idBehind, ListLeft, listLeft, listLoans, listDone, listGuard, listBehind}

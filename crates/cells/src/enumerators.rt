@@ -7,7 +7,7 @@ use orbits::policy::VERTEX;
 use orbits::policy::VOLUME;
 use orbits::visits::Written;
 ghost use mathlib.Core.Path.{_≡_};
-ghost use Prim.Native.Nat.{ℕ, _≤_};
+ghost use Prim.Native.Nat.{_≤_};
 ghost use lib.ListN.{length};
 ghost use Rattle.betas.specs.Betas.{darts};
 ghost use Rattle.orbits.specs.Steps.{vertex, edge, volume};

@@ -6,7 +6,7 @@ use orbits::policy::EDGE;
 use orbits::policy::VERTEX;
 use orbits::policy::VOLUME;
 ghost use mathlib.Core.Path.{_≡_};
-ghost use Prim.Native.Nat.{ℕ, _<_};
+ghost use Prim.Native.Nat.{_<_};
 ghost use Rattle.betas.specs.Betas.{darts};
 ghost use Rattle.orbits.specs.Steps.{vertex, edge, volume};
 ghost use Rattle.orbits.specs.Idents.{cellOf};

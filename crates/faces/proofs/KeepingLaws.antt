@@ -3,7 +3,7 @@
 --   keeping-starts, -turn, -ends   that it holds at first, that a turn keeps it, and that it gives the list
 --   keeping-marks, keeping-queue   scratch at the end
 -- Assumes nothing.
-use Prim.Native.Nat.{ℕ, zero, suc, _+_, _-_, _≤_, _<_}
+use Prim.Native.Nat.{ℕ, suc, _+_, _-_, _≤_, _<_}
 use native.Mathlib.Omega.{arith}
 use mathlib.Core.Path.{_≡_, refl, sym, ap, _∙_}
 use mathlib.Core.Bool.{Bool, true, false, cond, _&&_}

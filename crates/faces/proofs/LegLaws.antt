@@ -7,19 +7,19 @@
 --   lower-null, lower-less, lower-more     the cases of `lower`
 -- Assumes nothing.
 use mathlib.Core.Path.{_≡_, refl, sym, ap, _∙_, subst}
-use mathlib.Core.Bool.{Bool, true, false, cond, not, _||_, or-true, true≢false}
+use mathlib.Core.Bool.{Bool, true, false, cond, not, _||_, or-true}
 use mathlib.Core.Logic.{_⊎_, inl, inr, ⊎-elim}
-use mathlib.Core.List.{List, [], _∷_, _++_}
-use Prim.Native.Nat.{ℕ, zero, suc, _+_, _-_, _*_, _≤_, _<_}
+use mathlib.Core.List.{List, [], _∷_}
+use Prim.Native.Nat.{ℕ, zero, suc, _+_, _-_, _≤_, _<_}
 use native.Mathlib.Nat.{le-refl, le-trans, le-of-lt, min-eq-left, min-eq-right}
 use native.Mathlib.Omega.{arith}
 use lib.Dec.{eqb}
-use lib.ListN.{length, getD, take, drop, length-append}
+use lib.ListN.{length, take, drop, length-append}
 use lib.Seq.{length-take-le}
 use borrow.Author.Tests.{eq-eqb, ne-eqb}
 use Rattle.betas.specs.Betas.{beta, darts}
 use Rattle.orbits.specs.Loans.{Queue, Grown}
-use Rattle.orbits.specs.Search.{In, mem, add, Bounded}
+use Rattle.orbits.specs.Search.{mem, add, Bounded}
 use Rattle.orbits.proofs.Lists.{in-mem, mem-not}
 use Rattle.orbits.proofs.SearchLaws.{Added, null, old, new, added}
 use Rattle.orbits.proofs.QueueLaws.{queue-n}

@@ -4,7 +4,7 @@ use orbits::scratch::clear;
 use orbits::scratch::wipe_queue;
 use orbits::search::push;
 ghost use mathlib.Core.Path.{_≡_};
-ghost use Prim.Native.Nat.{ℕ, _<_, _≤_};
+ghost use Prim.Native.Nat.{_<_, _≤_};
 ghost use lib.ListN.{length, take};
 ghost use Rattle.betas.specs.Betas.{darts};
 ghost use Rattle.orbits.specs.Loans.{Queue, Grown, Zero, Scratch};

@@ -7,7 +7,7 @@ use mathlib.Core.Bool.{true, false}
 use mathlib.Core.List.{List, [], _∷_, _++_}
 use lib.IntN.{pos}
 use lib.Ieee.{Float, fin, inf, nan, add, sub, mul, le}
-use Rattle.geometry.specs.declared.Slot.the-variants.{NoVertex, At}
+use Rattle.geometry.specs.declared.Slot.the-variants.{At}
 use Rattle.geometry.specs.Geometry.{minusOf, dotOf, plusZero, point, slotAt, slotsRefuse, badGeometry}
 
 -- dart 0 has no vertex, darts 1 to 4 have one

@@ -10,7 +10,7 @@
 --   slotsRefuse  the test on four slots
 --   badGeometry  the test on the slots at four vertex identifiers, in the order ld, m2, m1, rd
 use Prim.Native.Nat.{ℕ, _+_, _*_, _<_}
-use mathlib.Core.Bool.{Bool, true, false, cond}
+use mathlib.Core.Bool.{Bool, false, cond}
 use mathlib.Core.List.{List}
 use lib.Dec.{eqb}
 use lib.IntN.{pos}

@@ -12,9 +12,8 @@ use mathlib.Core.Logic.{_≢_, _⊎_, inl, inr, ⊎-elim, by-cases}
 use mathlib.Core.List.{List, [], _∷_, _++_, List·Memᴰ·head, List·Memᴰ·tail, List·Memᴰ·cases-cons, List·Memᴰ·append-cases, List·Memᴰ·eq-of-singleton, Memᴰ·append-left, Memᴰ·append-right, Memᴰ·cast}
 use mathlib.Mathlib.Logic.Relation.{ReflTransGenᴰ·refl, ReflTransGenᴰ·tail}
 use lib.Dec.{lit<}
-use lib.ListN.{length, take, drop, length-append}
-use lib.Seq.{length-take-le}
-use Rattle.betas.specs.Betas.{beta, darts}
+use lib.ListN.{length, take, drop}
+use Rattle.betas.specs.Betas.{beta}
 use Rattle.betas.specs.Maps.{WellFormed}
 use Rattle.orbits.specs.Steps.{image, edge}
 use Rattle.orbits.specs.Search.{In, add, Reach}

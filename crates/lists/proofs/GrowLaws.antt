@@ -5,13 +5,13 @@
 --   grew-edge     or, of an edge, by both arms
 --   grew-forward, grew-again   or, of a volume, by beta 1 and beta 2 where no chain ends, and else by all its steps after these
 -- Assumes nothing.
-use Prim.Native.Nat.{ℕ, _+_, _-_, _≤_, _<_}
+use Prim.Native.Nat.{ℕ, _-_, _≤_, _<_}
 use native.Mathlib.Nat.{le-refl, le-trans}
 use native.Mathlib.Omega.{arith}
 use mathlib.Core.Path.{_≡_, refl, sym, ap, _∙_, subst}
 use mathlib.Core.Logic.{_⊎_, ⊎-elim}
-use mathlib.Core.List.{List, [], _∷_, _++_, List·Memᴰ·head, Memᴰ·append-right}
-use lib.ListN.{length, take, drop}
+use mathlib.Core.List.{List, List·Memᴰ·head, Memᴰ·append-right}
+use lib.ListN.{length, take}
 use lib.Seq.{length-take-le}
 use Rattle.betas.specs.Betas.{darts}
 use Rattle.betas.specs.Maps.{WellFormed}

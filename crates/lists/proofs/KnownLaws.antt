@@ -5,15 +5,15 @@
 --   cells-flags, cells-other, cells-own      the step laws of `cellsFrom`
 -- Assumes nothing.
 use mathlib.Core.Path.{_≡_, refl, sym, ap, _∙_, subst}
-use mathlib.Core.Bool.{Bool, true, false, cond, _&&_, and-false}
+use mathlib.Core.Bool.{Bool, cond, _&&_, and-false}
 use mathlib.Core.Logic.{_⊎_, inl, inr, ⊎-elim}
-use mathlib.Core.List.{List, [], _∷_, _++_, List·Memᴰ·head, List·Memᴰ·tail, List·Memᴰ·not-nil, List·Memᴰ·eq-of-singleton, List·Memᴰ·append-cases, Memᴰ·append-left, Memᴰ·append-right}
-use mathlib.Mathlib.Logic.Relation.{ReflTransGenᴰ, ReflTransGenᴰ·refl, ReflTransGenᴰ·tail, ReflTransGenᴰ·single}
-use Prim.Native.Nat.{ℕ, zero, suc, _+_, _-_, _≤_, _<_}
+use mathlib.Core.List.{List, [], _∷_, List·Memᴰ·eq-of-singleton}
+use mathlib.Mathlib.Logic.Relation.{ReflTransGenᴰ, ReflTransGenᴰ·single}
+use Prim.Native.Nat.{ℕ, suc, _+_, _-_, _<_}
 use native.Mathlib.Nat.{eq-or-lt-of-le}
 use native.Mathlib.Omega.{arith}
 use lib.Dec.{eqb}
-use lib.ListN.{length, getD, length-append, List·getD-append}
+use lib.ListN.{getD}
 use borrow.Author.Tests.{eqb-true, eqb-false, eq-eqb, ne-eqb}
 use Rattle.lists.specs.CellLists.{cellsFrom}
 use Rattle.lists.specs.Joins.{Closed, Joined}
@@ -23,7 +23,7 @@ use Rattle.orbits.specs.Search.{In, Reach, Bounded, Symmetric}
 use Rattle.orbits.specs.Steps.{image}
 use Rattle.orbits.proofs.Lists.{bool}
 use Rattle.orbits.proofs.OrbitLaws.{image-below}
-use Rattle.orbits.proofs.IdentLaws.{reach-real, reach-below, ident-reached, ident-le, ident-same, ident-one, ident-twice}
+use Rattle.orbits.proofs.IdentLaws.{reach-real, ident-reached, ident-le, ident-same, ident-one, ident-twice}
 
 -- l has the darts whose identifier is below d, and no others
 pub record Known (rows steps : List ℕ) (d : ℕ) (l : List ℕ) : Type 0 where

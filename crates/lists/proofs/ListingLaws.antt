@@ -4,27 +4,26 @@
 --   begun                 the null dart in marks and queue
 --   marks-same, queue-wiped   scratch at the end
 -- Assumes nothing.
-use mathlib.Core.Path.{_≡_, refl, sym, ap, _∙_, subst}
+use mathlib.Core.Path.{_≡_, refl, sym, ap, _∙_}
 use mathlib.Core.Bool.{Bool, true, false, cond, _&&_}
-use mathlib.Core.Logic.{_⊎_, inl, inr, ⊎-elim}
+use mathlib.Core.Logic.{_⊎_, ⊎-elim}
 use mathlib.Core.List.{List, [], _∷_, _++_, append-assoc, append-nil, List·Memᴰ·head}
-use Prim.Native.Nat.{ℕ, zero, suc, _+_, _-_, _≤_, _<_}
-use native.Mathlib.Nat.{le-refl, le-trans}
+use Prim.Native.Nat.{ℕ, suc, _+_, _-_, _≤_, _<_}
+use native.Mathlib.Nat.{le-refl}
 use native.Mathlib.Numerals.{add-one}
 use native.Mathlib.Omega.{arith}
 use lib.Dec.{eqb, ltb}
-use lib.ListN.{length, getD, take, drop, set, replicate, length-set, length-append, take-append-drop, drop-of-length-le}
-use lib.Seq.{length-take-le, take-suc-set, drop-set-lt, drop-length, take-length}
-use borrow.Author.Tests.{eqb-true, eqb-false, eq-eqb, ne-eqb, lt-ltb, le-ltb}
+use lib.ListN.{length, getD, take, drop, set, replicate, take-append-drop, drop-of-length-le}
+use lib.Seq.{length-take-le, take-suc-set, drop-set-lt}
+use borrow.Author.Tests.{eqb-true, eqb-false, lt-ltb, le-ltb}
 use Rattle.lists.specs.CellLists.{cellsFrom, cellsBy, cellList, Put}
 use Rattle.lists.specs.Joins.{Closed, Grew}
 use Rattle.orbits.specs.Idents.{ident}
 use Rattle.betas.specs.Betas.{darts}
-use Rattle.orbits.specs.Loans.{Queue, Grown, Listed, Zero}
+use Rattle.orbits.specs.Loans.{Queue, Listed, Zero}
 use Rattle.orbits.specs.Calls.{wiped}
 use Rattle.orbits.specs.Search.{In, mem, Bounded, Symmetric}
 use Rattle.orbits.proofs.Lists.{bool, mem-in, not-mem}
-use Rattle.orbits.proofs.QueueLaws.{queue-n}
 use Rattle.orbits.proofs.TurnLaws.{drop-more, seeded}
 use Rattle.orbits.proofs.ScratchLaws.{zero-split}
 use Rattle.lists.proofs.KnownLaws.{Known, known-closed, known-starts, known-old, known-same, known-new, known-more, cells-flags, cells-other, cells-own}

@@ -7,18 +7,18 @@
 --   Ahead, ahead-..    the loop that sees whether a beta 1 image is null
 --   visited-forward    a visit by beta 1 and beta 2
 -- Assumes nothing.
-use Prim.Native.Nat.{ℕ, zero, suc, _+_, _-_, _≤_, _<_}
+use Prim.Native.Nat.{ℕ, suc, _+_, _-_, _≤_, _<_}
 use native.Mathlib.Omega.{arith}
 use mathlib.Core.Path.{_≡_, refl, sym, ap, _∙_, subst}
 use mathlib.Core.Bool.{Bool, true, false, true≢false}
 use mathlib.Core.Logic.{_⊎_, inl, inr, ⊎-elim}
-use mathlib.Core.List.{List, [], _∷_, _++_, List·Memᴰ·head, List·Memᴰ·tail, List·Memᴰ·not-nil, List·Memᴰ·cases-cons, List·Memᴰ·eq-of-singleton, List·Memᴰ·append-cases, Memᴰ·append-left, Memᴰ·append-right, Memᴰ·cast}
+use mathlib.Core.List.{List, [], _∷_, _++_, List·Memᴰ·head, List·Memᴰ·tail, List·Memᴰ·not-nil, List·Memᴰ·cases-cons, List·Memᴰ·eq-of-singleton, List·Memᴰ·append-cases, Memᴰ·append-right, Memᴰ·cast}
 use mathlib.Mathlib.Logic.Relation.{ReflTransGenᴰ·refl, ReflTransGenᴰ·tail}
 use lib.Dec.{eqb, lit<}
 use lib.ListN.{length, getD, take, length-append}
 use lib.Seq.{length-take-le, getD-append-add, getD-take}
 use borrow.Author.Tests.{eqb-true, eqb-false}
-use Rattle.betas.specs.Betas.{beta, darts}
+use Rattle.betas.specs.Betas.{beta}
 use Rattle.betas.specs.Maps.{WellFormed}
 use Rattle.orbits.specs.Steps.{image, volume, volumeLinear}
 use Rattle.orbits.specs.Search.{In, NoRep, mem, add, visit, Reach}

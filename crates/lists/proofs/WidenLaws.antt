@@ -4,9 +4,9 @@
 --   Spread, spread   the search goes on from such a list to one that is closed too
 --   spread-joined    then the whole cell of d has joined l
 -- Assumes nothing.
-use Prim.Native.Nat.{ℕ, _+_, _-_, _≤_, _<_}
+use Prim.Native.Nat.{ℕ, _+_, _-_, _<_}
 use native.Mathlib.Omega.{arith}
-use mathlib.Core.Path.{_≡_, refl, sym, subst}
+use mathlib.Core.Path.{refl, sym, subst}
 use mathlib.Core.Logic.{_⊎_, inl, inr, ⊎-elim}
 use mathlib.Core.List.{List, [], _∷_, _++_, List·Memᴰ·head, List·Memᴰ·eq-of-singleton, List·Memᴰ·append-cases, Memᴰ·append-right}
 use mathlib.Mathlib.Logic.Relation.{ReflTransGenᴰ·refl, ReflTransGenᴰ·tail}

@@ -1,8 +1,6 @@
 // An edge is one round or one chain of beta 2 and beta 3 in turn, so that none of its darts has to be met twice.
 use crate::meet::meet;
 use betas::betas::beta_at;
-ghost use mathlib.Core.Path.{_≡_};
-ghost use Prim.Native.Nat.{ℕ};
 ghost use lib.ListN.{take};
 ghost use Rattle.orbits.specs.Steps.{edge};
 ghost use Rattle.orbits.specs.Search.{In};

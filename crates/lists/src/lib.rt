@@ -13,7 +13,7 @@ use orbits::visits::Written;
 ghost use mathlib.Core.Path.{_≡_};
 ghost use mathlib.Core.Bool.{_&&_};
 ghost use lib.Dec.{ltb, eqb};
-ghost use Prim.Native.Nat.{ℕ, _-_, _<_, _≤_};
+ghost use Prim.Native.Nat.{_-_, _<_, _≤_};
 ghost use lib.ListN.{length, take};
 ghost use Rattle.betas.specs.Betas.{darts};
 ghost use Rattle.orbits.specs.Search.{In, Symmetric};
@@ -23,7 +23,7 @@ ghost use Rattle.orbits.specs.Visits.{stepsBy};
 ghost use Rattle.lists.specs.CellLists.{cellList, Put};
 ghost use Rattle.lists.specs.Joins.{Closed, Grew};
 
-// Puts d into the queue, unless it is there, with all that the steps reach from it.
+// Puts d into the queue, unless it is there, with all that the steps reach from it. The order is of no matter to a list, so that an edge is followed and a volume searched by fewer steps.
 fn grow(
     rows: &[u32],
     written: Written,

@@ -1,6 +1,5 @@
 // A push into the queue of a list. The null dart stands in it from the start, so that no image has to be tested for null.
-ghost use mathlib.Core.Path.{_≡_};
-ghost use Prim.Native.Nat.{ℕ, _<_, _≤_};
+ghost use Prim.Native.Nat.{_<_, _≤_};
 ghost use lib.ListN.{length, take};
 ghost use Rattle.orbits.specs.Search.{In, add};
 ghost use Rattle.orbits.specs.Loans.{Queue, Grown};

@@ -3,7 +3,7 @@ use crate::meet::meet;
 use betas::betas::beta_at;
 ghost use mathlib.Core.Path.{_≡_};
 ghost use mathlib.Core.Bool.{false};
-ghost use Prim.Native.Nat.{ℕ, _-_, _<_, _≤_};
+ghost use Prim.Native.Nat.{_-_, _<_, _≤_};
 ghost use lib.ListN.{take};
 ghost use Rattle.betas.specs.Betas.{darts};
 ghost use Rattle.orbits.specs.Steps.{volumeLinear};

@@ -5,23 +5,20 @@
 --   ident-in, ident-first   the identifier is a dart of the cell, and the least
 --   orbit-null, ident-null  the orbit of the null dart is itself alone, and its identifier 0
 -- That a list has no repeats, begins with its dart and is closed is in `proofs/OrbitLaws.antt`, for every list of steps. Assumes nothing.
-use Prim.Native.Nat.{ℕ, zero, suc, _+_, _*_, _/_, _%_, _≤_, _<_}
+use Prim.Native.Nat.{ℕ, zero, suc, _+_, _/_, _%_, _≤_, _<_}
 use native.Mathlib.Omega.{arith}
-use mathlib.Core.Path.{_≡_, refl, sym, ap, _∙_, subst}
+use mathlib.Core.Path.{_≡_, refl, ap, _∙_}
 use mathlib.Core.Bool.{Bool, true, false, cond}
-use mathlib.Core.Logic.{_↔_, ⊎-elim}
+use mathlib.Core.Logic.{_↔_}
 use mathlib.Core.List.{List, [], _∷_, List·Memᴰ, List·Memᴰ·head, List·Memᴰ·tail}
 use lib.Dec.{ltb}
-use lib.ListN.{length, getD}
-use borrow.Author.Tests.{ltb-true, ltb-false}
+use borrow.Author.Tests.{ltb-true}
 use Rattle.betas.specs.Betas.{beta, darts}
 use Rattle.betas.specs.Maps.{WellFormed}
 use Rattle.orbits.specs.Steps.{image, IsStep, vertex, edge, face, volume}
-use Rattle.orbits.specs.Search.{In, mem, add, visit, search, orbit, Reach}
+use Rattle.orbits.specs.Search.{In, visit, search, orbit}
 use Rattle.orbits.specs.Cgal.{Orbit, self, forth, back, vertexΦ, edgeΦ, faceΦ, volumeΦ}
 use Rattle.orbits.specs.Idents.{leastFrom, least, ident}
-use Rattle.orbits.specs.Loans.{AreSteps}
-use Rattle.orbits.proofs.Lists.{bool}
 use Rattle.orbits.proofs.SearchLaws.{search-more, search-done}
 use Rattle.orbits.proofs.OrbitLaws.{orbit-sound, orbit-complete}
 use Rattle.orbits.proofs.CgalLaws.{Serves, reach-orbit, orbit-reach, symmetric, vertex-serves, edge-serves, face-serves, volume-serves}

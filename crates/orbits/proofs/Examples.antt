@@ -3,11 +3,11 @@ use Prim.Native.Nat.{ℕ}
 use mathlib.Core.Path.{_≡_, refl}
 use mathlib.Core.List.{List, [], _∷_}
 use Rattle.betas.specs.declared.error.Answer.the-variants.{Done, Refused}
-use Rattle.betas.specs.declared.error.Refusal.the-variants.{ShortLoan, NotAMap, BadDart, BadBeta}
+use Rattle.betas.specs.declared.error.Refusal.the-variants.{ShortLoan, BadDart, BadBeta}
 use Rattle.betas.specs.Maps.{badSize, breaks, breachAt, firstBreach, mapTest}
 use Rattle.betas.specs.Guards.{loanTest, noDart, guardOf}
 use Rattle.orbits.specs.declared.policy.OrbitPolicy.the-variants.{Vertex, Face, FaceLinear}
-use Rattle.orbits.specs.Steps.{image, vertex, face, faceLinear}
+use Rattle.orbits.specs.Steps.{image, vertex, face}
 use Rattle.orbits.specs.Search.{mem, add, visit, search, orbit}
 use Rattle.orbits.specs.Calls.{left, customTest, orbitCall, customCall}
 

@@ -7,12 +7,11 @@
 --   cell-is             the two numbers that the core finds are the cell
 -- Assumes nothing.
 use mathlib.Core.Path.{_≡_, refl, sym, ap, _∙_, subst}
-use mathlib.Core.Bool.{Bool, true, false}
-use mathlib.Core.Logic.{_⊎_, inl, inr, ⊎-elim, _↔_}
-use mathlib.Core.List.{List, [], _∷_, _++_, List·Memᴰ·head, List·Memᴰ·tail, List·Memᴰ·not-nil, List·Memᴰ·cases-cons, List·Memᴰ·eq-of-singleton, Memᴰ·cast}
+use mathlib.Core.Logic.{_⊎_, inl, inr, ⊎-elim}
+use mathlib.Core.List.{List, [], _∷_, List·Memᴰ·head, List·Memᴰ·tail, List·Memᴰ·cases-cons, List·Memᴰ·eq-of-singleton}
 use mathlib.Mathlib.Logic.Relation.{ReflTransGenᴰ, ReflTransGenᴰ·refl, ReflTransGenᴰ·tail, ReflTransGenᴰ·trans, ReflTransGenᴰ·symm}
 use Prim.Native.Nat.{ℕ, zero, suc, _+_, _≤_, _<_, min, zero-le, suc-le-suc}
-use native.Mathlib.Nat.{le-refl, le-trans, le-of-eq, le-of-lt, le-antisymm, min-le-left, min-le-right, min-eq-left, min-eq-right, lt-of-le-of-lt, not-suc-le-zero}
+use native.Mathlib.Nat.{le-trans, le-of-eq, le-of-lt, le-antisymm, min-le-left, min-le-right, min-eq-left, min-eq-right, not-suc-le-zero}
 use native.Mathlib.Numerals.{add-one}
 use native.Mathlib.Omega.{arith}
 use lib.Dec.{leb}
@@ -22,7 +21,7 @@ use borrow.Author.Tests.{leb-true, leb-false}
 use Rattle.betas.specs.Betas.{darts}
 use Rattle.orbits.specs.declared.core.Cell.{Cell}
 use Rattle.orbits.specs.Idents.{leastFrom, least, ident, cellOf}
-use Rattle.orbits.specs.Search.{In, orbit, Step, Reach, Bounded, Symmetric}
+use Rattle.orbits.specs.Search.{In, orbit, Reach, Bounded, Symmetric}
 use Rattle.orbits.proofs.Lists.{bool}
 use Rattle.orbits.proofs.SearchLaws.{Ext}
 use Rattle.orbits.proofs.OrbitLaws.{orbit-starts, orbit-sound, orbit-complete, orbit-below}

@@ -6,21 +6,21 @@
 --   orbit-sound, orbit-complete, orbit-exact   it holds exactly the darts that the steps reach
 --   orbit-room, orbit-some   its length
 -- Assumes nothing.
-use mathlib.Core.Path.{_≡_, refl, sym, ap, _∙_, subst}
+use mathlib.Core.Path.{_≡_, refl, sym, _∙_, subst}
 use mathlib.Core.Bool.{Bool, true, false, cond}
 use mathlib.Core.Logic.{_⊎_, inl, inr, ⊎-elim, _↔_}
-use mathlib.Core.List.{List, [], _∷_, _++_, List·Memᴰ·head, List·Memᴰ·tail, List·Memᴰ·not-nil, List·Memᴰ·eq-of-singleton, Memᴰ·cast}
+use mathlib.Core.List.{List, [], _∷_, List·Memᴰ·head, List·Memᴰ·not-nil, List·Memᴰ·eq-of-singleton, Memᴰ·cast}
 use mathlib.Mathlib.Logic.Relation.{ReflTransGenᴰ, ReflTransGenᴰ·refl, ReflTransGenᴰ·tail}
-use Prim.Native.Nat.{ℕ, zero, suc, _+_, _≤_, _<_, zero-le, suc-le-suc}
+use Prim.Native.Nat.{ℕ, _+_, _≤_, _<_, zero-le}
 use native.Mathlib.Nat.{not-suc-le-zero, lt-of-lt-of-le}
 use native.Mathlib.Omega.{arith}
 use lib.Dec.{ltb}
 use lib.ListN.{length, getD}
 use borrow.Author.Count.{below-more}
-use Rattle.betas.specs.Betas.{beta, darts}
-use Rattle.orbits.specs.Search.{In, NoRep, visit, search, orbit, Step, Reach, Bounded}
+use Rattle.betas.specs.Betas.{darts}
+use Rattle.orbits.specs.Search.{In, NoRep, visit, search, orbit, Reach, Bounded}
 use Rattle.orbits.specs.Steps.{image}
-use Rattle.orbits.proofs.Lists.{bool, in-at, at-in, pigeonhole}
+use Rattle.orbits.proofs.Lists.{in-at, at-in, pigeonhole}
 use Rattle.orbits.proofs.SearchLaws.{Ext, ext-refl, ext-trans, ext-in, ext-at, ext-length, Good, Passes, Ended, search-inv, visit-ext, visit-has, visit-good}
 
 -- the images of d are null or listed

@@ -8,19 +8,19 @@
 -- Assumes nothing.
 use mathlib.Core.Path.{_≡_, refl, sym, ap, _∙_, subst}
 use mathlib.Core.Bool.{Bool, true, false, cond, _||_, or-true}
-use mathlib.Core.Logic.{_⊎_, inl, inr, ⊎-elim}
+use mathlib.Core.Logic.{_⊎_, ⊎-elim}
 use mathlib.Core.List.{List, [], _∷_, _++_, List·Memᴰ·head, List·Memᴰ·append-cases, List·Memᴰ·eq-of-singleton, List·Memᴰ·not-nil, Memᴰ·append-right}
-use Prim.Native.Nat.{ℕ, zero, suc, _+_, _≤_, _<_, zero-le}
+use Prim.Native.Nat.{ℕ, _+_, _≤_, _<_, zero-le}
 use native.Mathlib.Nat.{le-refl}
 use native.Mathlib.Numerals.{add-one}
 use native.Mathlib.Omega.{arith}
 use lib.Dec.{eqb}
-use lib.ListN.{length, getD, take, drop, set, length-set, length-append}
+use lib.ListN.{length, getD, take, set, length-set, length-append}
 use lib.Seq.{take-suc-set, drop-set-lt, getD-set-same, getD-set-other, length-take-le, ext-getD, getD-take, take-suc}
 use borrow.Author.Tests.{eqb-true, eqb-false, eq-eqb, ne-eqb}
 use Rattle.orbits.specs.Loans.{flag, Queue, Grown, Cleared, Zero}
 use Rattle.orbits.specs.Search.{In, NoRep, mem, add}
-use Rattle.orbits.proofs.Lists.{in-at, bool, mem-in, in-mem, not-mem, norep-snoc, pigeonhole}
+use Rattle.orbits.proofs.Lists.{in-at, bool, in-mem, not-mem, norep-snoc, pigeonhole}
 
 -- ---- the three cases of `add`, as equations
 

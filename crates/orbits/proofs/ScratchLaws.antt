@@ -14,7 +14,6 @@ use mathlib.Core.Path.{_≡_, refl, sym, ap, _∙_}
 use mathlib.Core.List.{List, [], _∷_, _++_}
 use lib.ListN.{length, getD, take, drop, replicate, length-replicate}
 use lib.Seq.{take-at, drop-at}
-use Rattle.betas.specs.Betas.{darts}
 use Rattle.orbits.specs.Loans.{Zero, AreSteps, Scratch, Fit}
 use Rattle.orbits.specs.Calls.{wiped}
 

@@ -8,11 +8,11 @@
 -- Assumes nothing.
 use mathlib.Core.Path.{_≡_, refl, sym, ap, _∙_, subst}
 use mathlib.Core.List.{List, [], _∷_, _++_}
-use Prim.Native.Nat.{ℕ, zero, suc, _+_, _-_, _*_, _≤_, _<_}
-use native.Mathlib.Nat.{le-refl, le-trans, sub-zero, not-suc-le-zero, le-of-suc-le-suc}
+use Prim.Native.Nat.{ℕ, suc, _+_, _-_, _≤_, _<_}
+use native.Mathlib.Nat.{le-refl, le-trans, sub-zero}
 use native.Mathlib.Numerals.{add-one}
 use native.Mathlib.Omega.{arith}
-use lib.ListN.{length, getD, take, drop, set, length-set, take-append-drop, length-append, replicate}
+use lib.ListN.{length, getD, take, drop, set, take-append-drop, length-append}
 use lib.Seq.{drop-cons, drop-drop, drop-length, drop-set-lt, getD-take, length-take-le, take-suc-set, take-at, drop-at}
 use Rattle.betas.specs.Betas.{darts}
 use Rattle.orbits.specs.Loans.{Queue, Grown, Fit, Listed, Zero}

@@ -9,7 +9,7 @@
 --   Symmetric rows steps  each step leads back by a step
 use Prim.Native.Nat.{ℕ, zero, suc, _+_, _<_}
 use mathlib.Core.Path.{_≡_}
-use mathlib.Core.Bool.{Bool, true, false, cond, _||_}
+use mathlib.Core.Bool.{Bool, false, cond, _||_}
 use mathlib.Core.List.{List, [], _∷_, _++_, List·Memᴰ}
 use mathlib.Mathlib.Logic.Relation.{ReflTransGenᴰ}
 use lib.Dec.{ltb, eqb}

@@ -4,7 +4,7 @@ use crate::scratch::wipe_queue;
 use crate::search::flood;
 use crate::visits::written_out;
 ghost use mathlib.Core.Path.{_≡_};
-ghost use Prim.Native.Nat.{ℕ, _<_, _≤_};
+ghost use Prim.Native.Nat.{_<_, _≤_};
 ghost use lib.ListN.{length, take};
 ghost use Rattle.betas.specs.Betas.{darts};
 ghost use Rattle.orbits.specs.Search.{orbit};

@@ -1,7 +1,6 @@
 -- The plans of document 01's table as numbers, and a plan whose length is no multiple of an entry's. Assumes nothing.
-use Prim.Native.Nat.{ℕ}
 use mathlib.Core.Path.{_≡_, refl}
-use mathlib.Core.List.{List, [], _∷_}
+use mathlib.Core.List.{[], _∷_}
 use Rattle.plan.specs.declared.Class.the-variants.{Vertex, Edge, Face}
 use Rattle.plan.specs.Plan.{mergeOf, splitOf, written, roomOf, planOf, putPlan}
 

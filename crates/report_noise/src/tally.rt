@@ -1,7 +1,7 @@
 // What came of cases: by refusal, and a sum over every byte that the report would print.
 use summary::report::report_text;
 ghost use mathlib.Core.Path.{_≡_};
-ghost use Prim.Native.Nat.{_<_, _≤_};
+ghost use Prim.Native.Nat.{_<_};
 
 // What came of a case, and the sum behind it.
 pub struct Told {

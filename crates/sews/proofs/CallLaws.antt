@@ -1,9 +1,9 @@
 -- A call behind its tests: the scratch that it lends (`scratch-lent`), what it leaves (`sew-left`), and the ways out (`sew-refused`, `sew-goes`). Assumes nothing.
 use Prim.Native.Nat.{ℕ}
-use mathlib.Core.Path.{_≡_, refl, sym, ap, _∙_}
+use mathlib.Core.Path.{_≡_, ap, _∙_}
 use mathlib.Core.Bool.{true, false}
 use mathlib.Core.List.{List}
-use lib.ListN.{length, take}
+use lib.ListN.{take}
 use Rattle.betas.specs.declared.error.Answer.{Answer}
 use Rattle.betas.specs.Betas.{darts}
 use Rattle.betas.specs.Answers.{isDone}

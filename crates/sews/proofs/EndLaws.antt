@@ -1,12 +1,11 @@
 -- How each sew and unsew ends, from what its parts have left: refused, without room and undone, or done. Assumes nothing.
-use Prim.Native.Nat.{ℕ, _<_, _≤_}
+use Prim.Native.Nat.{ℕ}
 use native.Mathlib.Omega.{arith}
-use mathlib.Core.Path.{_≡_, refl, sym, ap, _∙_}
-use mathlib.Core.Bool.{Bool, true, false, cond, not}
+use mathlib.Core.Path.{_≡_, sym, ap, _∙_}
+use mathlib.Core.Bool.{Bool, true, false, not}
 use mathlib.Core.List.{List}
 use lib.Dec.{eqb}
 use lib.Ieee.{Float}
-use lib.ListN.{length}
 use Rattle.betas.specs.declared.error.Answer.{Answer}
 use Rattle.betas.specs.declared.error.Answer.the-variants.{Refused}
 use Rattle.betas.specs.declared.error.Refusal.the-variants.{BadGeometry}

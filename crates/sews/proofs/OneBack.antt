@@ -5,19 +5,18 @@
 --   links-formed, unlinks-formed the map stays well formed
 --   taken-back, put-back         the code's way of undoing them gives back every row
 -- Assumes nothing.
-use Prim.Native.Nat.{ℕ, _+_, _*_, _<_, _≤_}
+use Prim.Native.Nat.{ℕ}
 use native.Mathlib.Omega.{arith}
 use mathlib.Core.Path.{_≡_, refl, sym, ap, _∙_}
 use mathlib.Core.Logic.{_≢_}
-use mathlib.Core.Bool.{Bool, true, false, cond, not, _||_, true≢false}
+use mathlib.Core.Bool.{Bool, true, false, true≢false}
 use mathlib.Core.List.{List}
-use lib.Dec.{eqb}
 use lib.ListN.{length}
 use borrow.Author.Tests.{eqb-true}
 use Rattle.betas.specs.declared.error.Answer.{Answer}
-use Rattle.betas.specs.declared.error.Answer.the-variants.{Done, Refused}
+use Rattle.betas.specs.declared.error.Answer.the-variants.{Refused}
 use Rattle.betas.specs.declared.error.Refusal.the-variants.{AsymmetricalFaces}
-use Rattle.betas.specs.Betas.{beta, darts, opp}
+use Rattle.betas.specs.Betas.{beta, darts}
 use Rattle.betas.specs.Answers.{Out, out, isDone, pass}
 use Rattle.betas.specs.Cores.{linkCore, unlinkCore}
 use Rattle.betas.specs.Guards.{Dart}
@@ -26,8 +25,8 @@ use Rattle.betas.proofs.CoreLaws.{unlink-done}
 use Rattle.betas.proofs.Kept.{link-refused, unlink-refused, unlink-undoes, link-undoes, link-pair, unlink-pair}
 use Rattle.betas.proofs.Always.{link-formed, link-length, link-other, unlink-formed, unlink-length, unlink-other}
 use Rattle.sews.specs.Sewn.{dartOf}
-use Rattle.sews.specs.One.{bothThree, orBack, oneLinks, secondCut, secondPut, agrees, oneUnlinks, takenBack, relinked}
-use Rattle.sews.proofs.OneLaws.{both-left, both-right, both-same, real, cut-none, cut-some, put-no, put-some, cut-formed}
+use Rattle.sews.specs.One.{bothThree, oneLinks, secondCut, secondPut, agrees, oneUnlinks, takenBack, relinked}
+use Rattle.sews.proofs.OneLaws.{both-left, both-right, both-same, cut-none, cut-some, put-no, put-some, cut-formed}
 
 -- ---- links
 

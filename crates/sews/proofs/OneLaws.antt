@@ -8,23 +8,23 @@ use Prim.Native.Nat.{ℕ, _+_, _*_, _<_, _≤_}
 use native.Mathlib.Omega.{arith}
 use mathlib.Core.Path.{_≡_, refl, sym, ap, _∙_}
 use mathlib.Core.Logic.{_≢_}
-use mathlib.Core.Bool.{Bool, true, false, cond, not, _&&_, _||_, true≢false}
+use mathlib.Core.Bool.{Bool, true, false, cond, not, _&&_, true≢false}
 use mathlib.Core.List.{List}
 use lib.Dec.{eqb}
 use lib.ListN.{length}
-use borrow.Author.Tests.{eq-eqb, ne-eqb, eqb-true, eqb-false}
+use borrow.Author.Tests.{eq-eqb, ne-eqb}
 use Rattle.betas.specs.declared.error.Answer.{Answer}
-use Rattle.betas.specs.declared.error.Answer.the-variants.{Done, Refused}
+use Rattle.betas.specs.declared.error.Answer.the-variants.{Refused}
 use Rattle.betas.specs.declared.error.Refusal.the-variants.{AsymmetricalFaces}
-use Rattle.betas.specs.Betas.{beta, darts, opp}
+use Rattle.betas.specs.Betas.{beta, darts}
 use Rattle.betas.specs.Answers.{Out, out, isDone}
 use Rattle.betas.specs.Cores.{linkCore, unlinkCore}
 use Rattle.betas.specs.Guards.{Dart}
 use Rattle.betas.specs.Maps.{WellFormed}
-use Rattle.betas.proofs.Kept.{link-refused, unlink-refused, unlink-undoes, link-undoes, unlink-pair}
-use Rattle.betas.proofs.Always.{link-formed, link-length, link-other, unlink-formed, unlink-length, unlink-other}
+use Rattle.betas.proofs.Kept.{link-refused, unlink-undoes, link-undoes, unlink-pair}
+use Rattle.betas.proofs.Always.{link-formed, link-length, unlink-formed, unlink-length}
 use Rattle.sews.specs.Sewn.{dartOf}
-use Rattle.sews.specs.One.{bothThree, orBack, afterLink, oneLinks, secondCut, secondPut, agrees, afterUnlink, oneUnlinks, takenBack, relinked}
+use Rattle.sews.specs.One.{bothThree, orBack, oneLinks, secondCut, secondPut, agrees, oneUnlinks}
 
 pub rows-of : (a : Answer) (rows : List ℕ) (o : Out) → out a rows ≡ o → rows ≡ o .rows
 rows-of a rows o e = ap (λ (x : Out). x .rows) e

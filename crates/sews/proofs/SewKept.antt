@@ -1,18 +1,17 @@
 -- A sew or an unsew of real darts leaves a well-formed map well formed, whatever it answers: `one-sew-formed`, `one-unsew-formed`, `two-sew-formed`,
 -- `two-unsew-formed`. Assumes nothing.
-use Prim.Native.Nat.{ℕ, _<_, _≤_}
+use Prim.Native.Nat.{ℕ}
 use native.Mathlib.Omega.{arith}
 use mathlib.Core.Path.{_≡_, refl}
-use mathlib.Core.Bool.{Bool, true, false, cond}
+use mathlib.Core.Bool.{Bool, true, false}
 use mathlib.Core.List.{List}
 use lib.Ieee.{Float}
-use Rattle.betas.specs.declared.error.Answer.{Answer}
 use Rattle.betas.specs.Betas.{darts}
 use Rattle.betas.specs.Answers.{isDone}
 use Rattle.betas.specs.Guards.{Dart}
 use Rattle.betas.specs.Maps.{WellFormed}
 use Rattle.betas.proofs.Always.{link-formed, unlink-formed}
-use Rattle.sews.specs.Sewn.{Work, Settled, dartOf, settled, sewn}
+use Rattle.sews.specs.Sewn.{Work, dartOf, settled, sewn}
 use Rattle.sews.specs.One.{oneSewOn, oneUnsewOn}
 use Rattle.sews.specs.Two.{sideOf, badSides, linkedSides, twoSewOn, twoUnsewOn}
 use Rattle.sews.proofs.OneBack.{links-formed, unlinks-formed}

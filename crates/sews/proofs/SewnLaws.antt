@@ -1,10 +1,9 @@
 -- Each way in which a plan is settled (`settles-..`) and in which a sew ends: refused by its work (`ends-refused`), without room (`ends-tight`),
 -- done (`ends-done`). What the code leaves is on the left. Assumes nothing.
 use Prim.Native.Nat.{ℕ, _<_, _≤_}
-use mathlib.Core.Path.{_≡_, refl, sym, ap, _∙_}
-use mathlib.Core.Bool.{Bool, true, false, cond}
+use mathlib.Core.Path.{_≡_, sym, ap, _∙_}
+use mathlib.Core.Bool.{true, false}
 use mathlib.Core.List.{List}
-use lib.Dec.{leb}
 use lib.ListN.{length}
 use borrow.Author.Tests.{le-leb, lt-leb}
 use Rattle.betas.specs.declared.error.Answer.{Answer}
@@ -13,7 +12,7 @@ use Rattle.betas.specs.declared.error.Refusal.the-variants.{PlanRoom}
 use Rattle.betas.specs.Answers.{isDone}
 use Rattle.plan.specs.declared.Entry.{Entry}
 use Rattle.plan.specs.Plan.{roomOf, putPlan}
-use Rattle.sews.specs.Sewn.{Work, work, Sewn, leaves, dartOf, Settled, settles, settled, afterPlan, sewn}
+use Rattle.sews.specs.Sewn.{Work, leaves, dartOf, settles, settled, sewn}
 
 module _ (plan : List ℕ) (d : ℕ) (es : List Entry) (k : ℕ) (ek : k ≡ length es) where
   pub settles-tight : roomOf plan < k → settles (Refused (PlanRoom k)) plan ≡ settled plan d es

@@ -9,8 +9,7 @@ use Prim.Native.Nat.{ℕ}
 use mathlib.Core.Bool.{Bool, cond, not, _&&_, _||_}
 use mathlib.Core.List.{List}
 use lib.Dec.{eqb}
-use Rattle.betas.specs.declared.error.Answer.{Answer}
-use Rattle.betas.specs.declared.error.Answer.the-variants.{Done, Refused}
+use Rattle.betas.specs.declared.error.Answer.the-variants.{Refused}
 use Rattle.betas.specs.declared.error.Refusal.the-variants.{AsymmetricalFaces}
 use Rattle.betas.specs.Betas.{beta}
 use Rattle.betas.specs.Answers.{Out, out, isDone}

@@ -5,7 +5,7 @@
 --   sewn        a work, with the room that the plan has: refusal 11 where it does not fit, and only then
 --   dartOf      the dart of an answer
 use Prim.Native.Nat.{ℕ}
-use mathlib.Core.Bool.{Bool, cond}
+use mathlib.Core.Bool.{cond}
 use mathlib.Core.List.{List}
 use lib.Dec.{leb}
 use lib.ListN.{length}

@@ -12,7 +12,7 @@ use betas::guard::scratch;
 use orbits::scratch::wipe_marks;
 use orbits::scratch::wipe_queue;
 ghost use mathlib.Core.Path.{_≡_};
-ghost use Prim.Native.Nat.{ℕ, _+_, _*_, _/_, _≤_, _<_};
+ghost use Prim.Native.Nat.{_*_, _/_, _≤_};
 ghost use lib.ListN.{length};
 ghost use Rattle.betas.specs.Betas.{darts};
 ghost use Rattle.betas.specs.Maps.{WellFormed};

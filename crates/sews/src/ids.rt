@@ -3,7 +3,7 @@ use orbits::core::cell_core;
 use orbits::policy::EDGE;
 use orbits::policy::VERTEX;
 ghost use mathlib.Core.Path.{_≡_};
-ghost use Prim.Native.Nat.{ℕ, _<_};
+ghost use Prim.Native.Nat.{_<_};
 ghost use Rattle.betas.specs.Betas.{darts};
 ghost use Rattle.betas.specs.Maps.{WellFormed};
 ghost use Rattle.sews.specs.Ids.{vertexId, edgeId, Scratch};

@@ -12,14 +12,14 @@ use betas::error::is_done;
 use geometry::bad_geometry;
 use plan::Kind;
 ghost use mathlib.Core.Path.{_≡_};
-ghost use Prim.Native.Nat.{ℕ, _+_, _*_, _/_, _≤_, _<_};
-ghost use lib.ListN.{length, getD};
-ghost use Rattle.betas.specs.Betas.{beta, darts};
+ghost use Prim.Native.Nat.{_*_, _≤_};
+ghost use lib.ListN.{length};
+ghost use Rattle.betas.specs.Betas.{darts};
 ghost use Rattle.betas.specs.Maps.{WellFormed};
 ghost use Rattle.betas.specs.Guards.{Dart};
 ghost use Rattle.sews.specs.Ids.{Scratch};
 ghost use Rattle.sews.specs.Sewn.{leaves, sewn};
-ghost use Rattle.sews.specs.Two.{sideOf, badSides, linkedSides, twoSewOn, twoUnsewOn};
+ghost use Rattle.sews.specs.Two.{linkedSides, twoSewOn, twoUnsewOn};
 
 // Links two darts whose sides are known, and settles their merges.
 fn link_sides(rows: &mut [u32], plan: &mut [u32], ld: u32, rd: u32, l: Side, r: Side) -> Answer

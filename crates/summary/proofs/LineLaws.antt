@@ -7,12 +7,11 @@
 --   class-is, class-fits, class-next   the line of a class, its room, and where it ends
 --   map-is       the five lines of a map
 --   wiped-four, lists-over   the loans of the four lists, one after the other
-use Prim.Native.Nat.{ℕ, zero, suc, _+_, _-_, _*_, _<_, _≤_}
+use Prim.Native.Nat.{ℕ, zero, suc, _+_, _-_, _<_, _≤_}
 use native.Mathlib.Omega.{arith}
-use native.Mathlib.Numerals.{add-one}
 use mathlib.Core.Path.{_≡_, refl, sym, ap, _∙_}
 use mathlib.Core.Logic.{_≢_}
-use mathlib.Core.Bool.{Bool, true, false, cond}
+use mathlib.Core.Bool.{cond}
 use mathlib.Core.List.{List, [], _∷_, _++_}
 use lib.ListN.{length, getD, drop, replicate, length-append}
 use lib.Dec.{eqb}
@@ -27,7 +26,7 @@ use Rattle.orbits.proofs.ScratchLaws.{wiped-back}
 use Rattle.cells.specs.declared.identifiers.Class.{Class}
 use Rattle.cells.specs.declared.identifiers.Class.the-variants.{Vertex, Edge, Face, Volume}
 use Rattle.cells.specs.Cells.{listOf}
-use Rattle.text.specs.Texts.{decimal, put, lay, itemsOf, lineOf}
+use Rattle.text.specs.Texts.{decimal, put, lay, lineOf}
 use Rattle.text.proofs.TextLaws.{lay-then, lay-next}
 use Rattle.summary.specs.Report.{valueOf, refusedWord, dartsWord, usedWord, verticesWord, edgesWord, facesWord, volumesWord, toldLine, refusedLine, usedUpTo, headLine, classLine, mapText, over, listsOver}
 use Rattle.summary.proofs.Rooms.{value-room, decimal-room, items-front, class-room}

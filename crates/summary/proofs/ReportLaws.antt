@@ -7,24 +7,24 @@
 --   done-is        the report of an image that is read
 --   more-is        the report of an input that is too long
 --   left-refused, left-done, left-more   what the report leaves in its other loans, case by case
-use Prim.Native.Nat.{ℕ, _+_, _*_, _/_, _<_, _≤_}
+use Prim.Native.Nat.{ℕ, _*_, _≤_}
 use native.Mathlib.Omega.{arith}
 use mathlib.Core.Path.{_≡_, refl, sym, ap, _∙_}
-use mathlib.Core.Bool.{Bool, true, false, cond, true≢false}
-use mathlib.Core.List.{List, [], _∷_, _++_}
+use mathlib.Core.Bool.{Bool, true, false, cond}
+use mathlib.Core.List.{List}
 use lib.ListN.{length, take, drop}
 use lib.Seq.{take-at}
 use lib.Ieee.{Float}
 use Rattle.betas.specs.declared.error.Answer.{Answer}
-use Rattle.betas.specs.declared.error.Answer.the-variants.{Done, Refused}
+use Rattle.betas.specs.declared.error.Answer.the-variants.{Refused}
 use Rattle.betas.specs.declared.error.Refusal.the-variants.{BadImage}
 use Rattle.betas.specs.Answers.{pass, isDone, andThen}
 use Rattle.betas.specs.Betas.{darts}
 use Rattle.betas.specs.Maps.{WellFormed}
-use Rattle.betas.proofs.AnswerLaws.{stops, goes-on}
+use Rattle.betas.proofs.AnswerLaws.{stops}
 use Rattle.betas.proofs.GuardLaws.{loan-none}
 use Rattle.words.proofs.Filled.{listed-length}
-use Rattle.stored.specs.Form.{form1, flagOffset, dartsOf, verticesOf, rowsOf, Header}
+use Rattle.stored.specs.Form.{form1, dartsOf, verticesOf, rowsOf, Header}
 use Rattle.stored.specs.Tests.{headerTest}
 use Rattle.stored.proofs.HeaderLaws.{header-done}
 use Rattle.stored.proofs.StoredLaws.{rows-length}
@@ -33,7 +33,6 @@ use Rattle.image.specs.Content.{flagsOf}
 use Rattle.image.specs.Reads.{Read, left, wrote, testOf, readWithin, Accepted}
 use Rattle.image.proofs.Accepted.{loans-pass, accepted-by}
 use Rattle.orbits.specs.Calls.{wiped}
-use Rattle.text.specs.Texts.{put, lay}
 use Rattle.summary.specs.Report.{refusedLine, mapText, answerOf, imageText, reportOf, listsOver, leaves, reportLeaves}
 
 module _ (bytes flags vertices : List ℕ) (coordinates : List Float) (rows : List ℕ) (rf : 1024 ≤ length flags) (rv : 1024 ≤ length vertices) (rc : 3072 ≤ length coordinates) (rr : 4096 ≤ length rows) where

@@ -9,7 +9,7 @@ use text::put_bytes;
 use text::put_line;
 use text::put_number;
 ghost use mathlib.Core.Path.{_≡_};
-ghost use Prim.Native.Nat.{ℕ, _+_, _-_, _<_, _≤_};
+ghost use Prim.Native.Nat.{_+_, _-_, _<_, _≤_};
 ghost use lib.ListN.{length};
 ghost use Rattle.betas.specs.Betas.{darts};
 ghost use Rattle.betas.specs.Maps.{WellFormed};

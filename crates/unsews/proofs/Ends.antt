@@ -12,7 +12,7 @@ use mathlib.Core.List.{List}
 use lib.ListN.{length}
 use borrow.Author.Tests.{eq-eqb, ne-eqb}
 use Rattle.betas.specs.Betas.{beta, darts}
-use Rattle.betas.specs.Answers.{Out, out, pass, isDone}
+use Rattle.betas.specs.Answers.{Out, pass, isDone}
 use Rattle.betas.specs.Maps.{WellFormed}
 use Rattle.links.specs.Walk.{stepOf, LegOut, legOut, legAt, walk}
 use Rattle.links.specs.Three.{legOn, legBack, threeUnlinkOn}

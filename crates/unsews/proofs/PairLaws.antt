@@ -7,7 +7,7 @@
 -- Assumes nothing.
 use Prim.Native.Nat.{ℕ, _≤_, _<_}
 use native.Mathlib.Omega.{arith}
-use mathlib.Core.Path.{_≡_, refl, sym, ap, _∙_}
+use mathlib.Core.Path.{_≡_, sym, ap, _∙_}
 use mathlib.Core.Logic.{_≢_}
 use mathlib.Core.Bool.{Bool, true, false, cond, not, _&&_}
 use mathlib.Core.List.{List, [], _∷_, _++_}
@@ -23,7 +23,6 @@ use Rattle.plan.specs.declared.Kind.the-variants.{Split}
 use Rattle.plan.specs.declared.Entry.{Entry}
 use Rattle.sews.specs.Ids.{vertexId, edgeId}
 use Rattle.sews.specs.declared.items.Item.{Item}
-use Rattle.sews.specs.declared.items.Items.{Items}
 use Rattle.sews.specs.Entries.{entryOf, entriesIf, listed, allOf, larger}
 use Rattle.sews.proofs.EntryLaws.{none-asked, three-items}
 use Rattle.sews.proofs.SideLaws.{larger-below}

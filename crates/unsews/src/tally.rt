@@ -3,14 +3,14 @@ use crate::pairs::pair_items;
 use betas::betas::beta_at;
 use sews::items::count;
 ghost use mathlib.Core.Path.{_≡_};
-ghost use Prim.Native.Nat.{ℕ, _+_, _*_, _/_, _≤_, _<_};
-ghost use lib.ListN.{length, getD};
-ghost use Rattle.betas.specs.Betas.{beta, darts};
+ghost use Prim.Native.Nat.{_+_, _*_, _≤_, _<_};
+ghost use lib.ListN.{length};
+ghost use Rattle.betas.specs.Betas.{darts};
 ghost use Rattle.betas.specs.Maps.{WellFormed};
 ghost use Rattle.plan.specs.Plan.{lesserOf};
 ghost use Rattle.sews.specs.Ids.{Scratch};
 ghost use Rattle.unsews.specs.Pairs.{pairCount, legOver, tallied, tallyFrom};
-ghost use Rattle.unsews.specs.Three.{startTally, firstTally, backTally, wholeTally};
+ghost use Rattle.unsews.specs.Three.{firstTally, wholeTally};
 
 // The least darts so far on the left and on the right, how many entries (exactly or at most), and the pair that comes next.
 pub(crate) struct Tally {

@@ -1,7 +1,6 @@
 -- `geometry::bad_geometry` meets its contract: it hands the four slots that it read to the test on slots. Assumes nothing.
 use mathlib.Core.Path.{_≡_, _∙_}
 use mathlib.Core.List.{List}
-use mathlib.Core.Bool.{Bool}
 use Prim.Native.Nat.{ℕ}
 use lib.Ieee.{Float}
 use Rattle.geometry.specs.declared.Slot.{Slot}

@@ -1,6 +1,6 @@
 -- `geometry::slots_refuse` meets its contract, with a law for each place where it returns. Assumes nothing.
-use mathlib.Core.Path.{_≡_, refl, sym, _∙_}
-use mathlib.Core.Bool.{Bool, false}
+use mathlib.Core.Path.{_≡_, refl, _∙_}
+use mathlib.Core.Bool.{false}
 use lib.Ieee.{Float}
 use Rattle.geometry.specs.declared.Slot.{Slot}
 use Rattle.geometry.specs.declared.Slot.the-variants.{NoVertex, At}

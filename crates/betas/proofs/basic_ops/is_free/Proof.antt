@@ -1,5 +1,4 @@
 -- `basic_ops::is_free` meets its contract: the tests of a read, then whether all images are null. Assumes nothing.
-use native.Mathlib.Omega.{arith}
 use mathlib.Core.Path.{sym, _∙_, ap}
 use borrow.Author.Tests.{not-true, not-false}
 use Rattle.betas.specs.declared.error.Answer.the-variants.{Done}

@@ -2,7 +2,6 @@
 use borrow.Author.Needs.{needs}
 use native.Mathlib.Omega.{arith}
 use mathlib.Core.Logic.{⊎-elim}
-use lib.ListN.{length-set}
 use Rattle.betas.proofs.BetaLaws.{opp-lt}
 use Rattle.betas.proofs.CoreLaws.{link-base, link-image, link-self, link-done}
 use Rattle.betas.proofs.betas.link_core.Statement.{statement}

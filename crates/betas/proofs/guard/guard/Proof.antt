@@ -1,5 +1,4 @@
 -- `guard::guard` meets its contract: the first of the tests that refuses. Assumes nothing.
-use native.Mathlib.Omega.{arith}
 use mathlib.Core.Path.{sym, _∙_, ap}
 use borrow.Author.Tests.{not-true, not-false}
 use Rattle.betas.specs.Answers.{isDone}

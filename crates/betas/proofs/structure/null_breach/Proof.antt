@@ -2,7 +2,6 @@
 use native.Mathlib.Omega.{arith}
 use mathlib.Core.Path.{sym, _∙_}
 use Rattle.betas.proofs.MapLaws.{breaks-of-null, keeps-null, breach-0, breach-1, breach-2, breach-3, breach-none}
-use borrow.Author.Needs.{needs}
 use Rattle.betas.proofs.structure.null_breach.Statement.{statement}
 use Rattle.betas.proofs.structure.null_breach.Tie as tie
 

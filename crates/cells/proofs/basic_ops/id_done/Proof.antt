@@ -1,7 +1,6 @@
 -- `basic_ops::id_done` meets its contract: wiped scratch, and the core on the first n places of it. Assumes nothing.
-use mathlib.Core.Path.{_≡_, refl, sym, ap, _∙_}
+use mathlib.Core.Path.{sym}
 use Prim.Native.Nat.{ℕ}
-use native.Mathlib.Omega.{arith}
 use native.Mathlib.Nat.{le-of-eq}
 use Rattle.betas.specs.Betas.{darts}
 use Rattle.orbits.proofs.ScratchLaws.{wiped-n, wiped-zero, wiped-lent}

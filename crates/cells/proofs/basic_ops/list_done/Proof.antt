@@ -1,5 +1,5 @@
 -- `basic_ops::list_done` meets its contract: wiped marks, and the core on the first n of them. Assumes nothing.
-use mathlib.Core.Path.{_≡_, refl, sym, ap, _∙_}
+use mathlib.Core.Path.{sym}
 use Prim.Native.Nat.{ℕ}
 use Rattle.betas.specs.Betas.{darts}
 use Rattle.orbits.proofs.ScratchLaws.{wiped-n, wiped-zero, wiped-lent}

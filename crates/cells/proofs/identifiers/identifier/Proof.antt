@@ -1,5 +1,5 @@
 -- `identifiers::identifier` meets its contract, class by class. Assumes nothing.
-use mathlib.Core.Path.{_≡_, refl, sym, ap, _∙_}
+use mathlib.Core.Path.{ap, _∙_}
 use Rattle.orbits.specs.declared.core.Cell.{Cell}
 use Rattle.cells.specs.declared.identifiers.Class.the-variants.{Vertex, Edge, Face, Volume}
 use Rattle.cells.proofs.LeftLaws.{ident-class}

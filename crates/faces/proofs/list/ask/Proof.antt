@@ -1,6 +1,5 @@
 -- `list::ask` meets its contract: the walk, and what it added unmarked. Assumes nothing.
-use mathlib.Core.Path.{_≡_, refl, sym, ap, _∙_}
-use native.Mathlib.Omega.{arith}
+use mathlib.Core.Path.{_∙_}
 use Rattle.faces.proofs.SightLaws.{asked, asked-room, asked-below}
 use borrow.Author.Needs.{needs}
 use Rattle.faces.proofs.list.ask.Statement.{statement}

@@ -1,8 +1,7 @@
 -- `list::faces_core` meets its contract, by the invariant `Keeping`. Assumes nothing.
-use mathlib.Core.Path.{_≡_, refl, sym, ap, _∙_}
-use Prim.Native.Nat.{ℕ, _-_, _<_, _≤_}
+use mathlib.Core.Path.{refl, _∙_}
+use Prim.Native.Nat.{_-_}
 use native.Mathlib.Omega.{arith}
-use lib.ListN.{length}
 use Rattle.betas.specs.Betas.{darts}
 use Rattle.orbits.proofs.ScratchLaws.{scratch-same}
 use Rattle.faces.proofs.KeepingLaws.{Keeping, keeping-starts, keeping-turn, keeping-ends, keeping-marks, keeping-queue}

@@ -1,9 +1,8 @@
 -- `list::is_regular` meets its contract: the test from x on with the turns that are left is the whole test. Assumes nothing.
-use mathlib.Core.Path.{_≡_, refl, sym, _∙_}
-use Prim.Native.Nat.{ℕ, suc, _-_, _<_}
+use mathlib.Core.Path.{_≡_, refl, _∙_}
+use Prim.Native.Nat.{suc, _-_, _<_}
 use native.Mathlib.Omega.{arith}
-use lib.ListN.{length}
-use Rattle.betas.specs.Betas.{beta, darts}
+use Rattle.betas.specs.Betas.{darts}
 use Rattle.faces.specs.Faces.{regularFrom, regular}
 use Rattle.faces.proofs.SightLaws.{test-null, test-across, test-round, test-on, test-end}
 use Rattle.faces.proofs.list.is_regular.Statement.{statement}

@@ -1,5 +1,4 @@
 -- `list::keep` meets its contract: both tests, one after the other. Assumes nothing.
-use mathlib.Core.Bool.{true, false}
 use borrow.Author.Tests.{ne-eqb, eq-eqb, not-true, not-false}
 use Rattle.lists.proofs.ListingLaws.{put-none, put-one}
 use borrow.Author.Needs.{needs}

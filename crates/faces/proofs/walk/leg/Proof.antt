@@ -2,7 +2,6 @@
 use mathlib.Core.Path.{_∙_}
 use Prim.Native.Nat.{_-_, _<_}
 use native.Mathlib.Omega.{arith}
-use lib.ListN.{length}
 use Rattle.betas.specs.Betas.{darts}
 use Rattle.orbits.proofs.QueueLaws.{queue-n}
 use Rattle.faces.proofs.LegLaws.{Walking, walking-starts, walking-turn, walking-ends}

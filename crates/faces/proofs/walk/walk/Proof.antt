@@ -1,9 +1,7 @@
 -- `walk::walk` meets its contract: the forward leg, and the backward one where that ended on a null dart. Assumes nothing.
-use mathlib.Core.Path.{_≡_}
 use mathlib.Core.Logic.{inl, inr, ⊎-elim}
-use Prim.Native.Nat.{ℕ, _<_}
+use Prim.Native.Nat.{_<_}
 use native.Mathlib.Omega.{arith}
-use lib.ListN.{length}
 use Rattle.betas.specs.Betas.{darts}
 use Rattle.orbits.proofs.ScratchLaws.{scratch-same}
 use Rattle.faces.proofs.LegLaws.{walked-one, walked-two}

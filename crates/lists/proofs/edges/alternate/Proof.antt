@@ -1,8 +1,8 @@
 -- `edges::alternate` meets its contract, by the invariant `Following`. Assumes nothing.
-use mathlib.Core.Path.{_≡_, sym, ap, _∙_, subst}
-use Prim.Native.Nat.{ℕ, _-_, _≤_, _<_}
+use mathlib.Core.Path.{_≡_, _∙_}
+use Prim.Native.Nat.{_-_}
 use native.Mathlib.Omega.{arith}
-use lib.ListN.{length, take}
+use lib.ListN.{length}
 use Rattle.betas.specs.Betas.{darts}
 use Rattle.orbits.proofs.QueueLaws.{queue-n}
 use Rattle.lists.proofs.ArmLaws.{Following, following-starts, following-turn, following-ends, edge-less}

@@ -1,11 +1,10 @@
 -- `volumes::flood_forward` meets its contract, by the invariants `Flooding` and `Ahead`. Assumes nothing.
-use Prim.Native.Nat.{ℕ, _+_, _-_, _<_, _≤_}
+use Prim.Native.Nat.{_-_, _<_}
 use native.Mathlib.Omega.{arith}
-use mathlib.Core.Path.{_≡_, refl, sym, ap, _∙_, subst}
-use mathlib.Core.Bool.{Bool}
+use mathlib.Core.Path.{sym, _∙_, subst}
 use mathlib.Core.Logic.{⊎-elim}
-use lib.ListN.{length, getD, take}
-use Rattle.betas.specs.Betas.{beta, darts}
+use lib.ListN.{getD, take}
+use Rattle.betas.specs.Betas.{darts}
 use Rattle.orbits.specs.Steps.{volumeLinear}
 use Rattle.orbits.specs.Search.{In}
 use Rattle.orbits.proofs.SearchLaws.{ext-in, visit-ext}

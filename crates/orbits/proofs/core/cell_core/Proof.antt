@@ -1,10 +1,10 @@
 -- `core::cell_core` meets its contract: the orbit in the queue, its least, and the queue wiped. Assumes nothing.
-use mathlib.Core.Path.{_≡_, refl, sym, ap, _∙_}
+use mathlib.Core.Path.{ap, _∙_}
 use mathlib.Core.List.{List, _++_}
 use Prim.Native.Nat.{ℕ, _≤_}
 use native.Mathlib.Omega.{arith}
 use lib.ListN.{length, replicate}
-use Rattle.orbits.specs.Idents.{least, ident}
+use Rattle.orbits.specs.Idents.{least}
 use Rattle.orbits.proofs.OrbitLaws.{orbit-some}
 use Rattle.orbits.proofs.IdentLaws.{cell-is}
 use Rattle.orbits.proofs.TurnLaws.{listed-take, listed-room, listed-drop}

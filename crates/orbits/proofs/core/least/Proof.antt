@@ -1,10 +1,9 @@
 -- `core::least` meets its contract, by the invariant `Lowest`. Assumes nothing.
-use mathlib.Core.Path.{_≡_, refl, sym, ap, _∙_}
+use mathlib.Core.Path.{sym, _∙_}
 use mathlib.Core.Logic.{⊎-elim}
-use Prim.Native.Nat.{_-_, min}
+use Prim.Native.Nat.{_-_}
 use native.Mathlib.Nat.{min-eq-left, min-eq-right, le-of-lt}
 use native.Mathlib.Omega.{arith}
-use lib.ListN.{getD}
 use Rattle.orbits.proofs.IdentLaws.{Lowest, lowest-starts, lowest-turn, lowest-ends}
 use Rattle.orbits.proofs.core.least.Statement.{statement}
 use Rattle.orbits.proofs.core.least.Tie as tie

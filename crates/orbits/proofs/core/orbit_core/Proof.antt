@@ -1,8 +1,8 @@
 -- `core::orbit_core` meets its contract: a queue of d alone is flooded, and its marks are cleared. Assumes nothing.
-use mathlib.Core.Path.{_≡_, refl, sym, ap, _∙_, subst}
+use mathlib.Core.Path.{_∙_}
 use Prim.Native.Nat.{zero-le}
 use native.Mathlib.Omega.{arith}
-use lib.ListN.{set, length-set}
+use lib.ListN.{length-set}
 use Rattle.orbits.proofs.QueueLaws.{cleared-all}
 use Rattle.orbits.proofs.TurnLaws.{fit-same, seeded, flooded}
 use borrow.Author.Needs.{needs}

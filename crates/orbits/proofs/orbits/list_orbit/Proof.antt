@@ -1,8 +1,6 @@
 -- `orbits::list_orbit` meets its contract: wiped marks, and the core on the first n of them. Assumes nothing.
-use mathlib.Core.Path.{_≡_, refl, sym, ap, _∙_}
+use mathlib.Core.Path.{sym}
 use Prim.Native.Nat.{ℕ}
-use native.Mathlib.Omega.{arith}
-use lib.ListN.{length, take}
 use Rattle.betas.specs.Betas.{darts}
 use Rattle.orbits.proofs.ScratchLaws.{wiped-n, wiped-zero, wiped-lent}
 use Rattle.orbits.proofs.CallLaws.{orbit-left}

@@ -1,16 +1,13 @@
 -- `orbits::orbit` meets its contract: refused by the guard, or the orbit under the policy's steps. Assumes nothing.
-use mathlib.Core.Path.{_≡_, refl, sym, ap, _∙_, subst}
-use mathlib.Core.Bool.{true, false}
+use mathlib.Core.Path.{_≡_, sym, ap, _∙_}
+use mathlib.Core.Bool.{true}
 use mathlib.Core.List.{List}
-use native.Mathlib.Omega.{arith}
 use Prim.Native.Nat.{ℕ}
-use lib.ListN.{length}
 use lib.Seq.{length-take-le}
 use borrow.Author.Tests.{not-true, not-false}
 use Rattle.betas.specs.declared.guard.Loans.{Loans}
 use Rattle.betas.specs.Answers.{isDone}
 use Rattle.betas.specs.Guards.{guardOf}
-use Rattle.orbits.specs.Loans.{AreSteps}
 use Rattle.orbits.specs.Calls.{left, orbitGuard, orbitDone, orbitCall}
 use Rattle.orbits.proofs.StepLaws.{steps-are}
 use Rattle.orbits.proofs.CallLaws.{behind-refused, behind-done, orbit-ready}

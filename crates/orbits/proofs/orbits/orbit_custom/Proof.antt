@@ -1,7 +1,6 @@
 -- `orbits::orbit_custom` meets its contract: refused by the guard or by the test of the betas, or the orbit under these. Assumes nothing.
-use mathlib.Core.Path.{_≡_, refl, sym, ap, _∙_}
-use mathlib.Core.Bool.{true, false}
-use lib.ListN.{length}
+use mathlib.Core.Path.{_≡_, sym, ap, _∙_}
+use mathlib.Core.Bool.{true}
 use borrow.Author.Tests.{not-true, not-false}
 use Rattle.betas.specs.declared.guard.Loans.{Loans}
 use Rattle.betas.specs.Answers.{isDone, andThen}

@@ -1,8 +1,8 @@
 -- `scratch::clear` meets its contract: after i turns the marks of the first i darts are 0. Assumes nothing.
-use mathlib.Core.Path.{_≡_, refl, sym, ap, _∙_, subst}
-use Prim.Native.Nat.{ℕ, _+_, _-_, _≤_, _<_}
+use mathlib.Core.Path.{_≡_, refl, _∙_}
+use Prim.Native.Nat.{_-_, _≤_, _<_}
 use native.Mathlib.Omega.{arith}
-use lib.ListN.{length, getD, take, set, length-set}
+use lib.ListN.{length, getD, take, length-set}
 use Rattle.orbits.specs.Loans.{Cleared}
 use Rattle.orbits.proofs.QueueLaws.{cleared-none, cleared-step, take-below}
 use Rattle.orbits.proofs.scratch.clear.Statement.{statement}

@@ -1,7 +1,6 @@
 -- `search::flood` meets its contract, by the invariant `Flooding`. Assumes nothing.
 use Prim.Native.Nat.{_-_, _<_}
 use native.Mathlib.Omega.{arith}
-use lib.ListN.{length}
 use Rattle.betas.specs.Betas.{darts}
 use Rattle.orbits.proofs.TurnLaws.{Flooding, flooding-starts, flooding-turn, flooding-ends, dart-below, count-n, fit-same}
 use Rattle.orbits.proofs.search.flood.Statement.{statement}

@@ -1,8 +1,6 @@
 -- `search::image` meets its contract: a step by one beta, or by two. Assumes nothing.
-use mathlib.Core.Path.{_≡_}
-use Prim.Native.Nat.{_/_, _<_}
+use Prim.Native.Nat.{_<_}
 use native.Mathlib.Omega.{arith}
-use lib.ListN.{length}
 use Rattle.betas.specs.Betas.{darts}
 use Rattle.orbits.specs.Steps.{IsStep}
 use Rattle.orbits.proofs.StepLaws.{image-one, image-two}

@@ -1,6 +1,5 @@
 -- `search::step` meets its contract: an image, and a push. Assumes nothing.
 use native.Mathlib.Omega.{arith}
-use mathlib.Core.Path.{_≡_}
 use Prim.Native.Nat.{_<_}
 use Rattle.betas.specs.Betas.{darts}
 use Rattle.orbits.proofs.OrbitLaws.{image-below}

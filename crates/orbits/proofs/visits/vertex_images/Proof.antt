@@ -1,6 +1,6 @@
 -- `visits::vertex_images` meets its contract. Assumes nothing.
 use native.Mathlib.Omega.{arith}
-use mathlib.Core.Path.{sym, ap, _∙_}
+use mathlib.Core.Path.{ap, _∙_}
 use Rattle.betas.specs.Betas.{beta}
 use Rattle.orbits.specs.Steps.{image}
 use Rattle.orbits.proofs.VisitLaws.{inner-room}

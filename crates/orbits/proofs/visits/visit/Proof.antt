@@ -1,6 +1,6 @@
 -- `visits::visit` meets its contract, list by list. Assumes nothing.
 use borrow.Author.Needs.{needs}
-use Rattle.orbits.specs.declared.visits.Written.the-variants.{Vertex, Edge, Face, Volume, Other}
+use Rattle.orbits.specs.declared.visits.Written.the-variants.{Vertex, Edge, Face, Volume}
 use Rattle.orbits.proofs.ScratchLaws.{fit-scratch}
 use Rattle.orbits.proofs.VisitLaws.{by-list}
 use Rattle.orbits.proofs.visits.visit.Statement.{statement}

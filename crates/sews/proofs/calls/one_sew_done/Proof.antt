@@ -1,5 +1,5 @@
 -- `calls::one_sew_done` meets its contract: wiped scratch, and the core on the first n places of it. Assumes nothing.
-use mathlib.Core.Path.{sym, ap, _∙_}
+use mathlib.Core.Path.{sym}
 use Rattle.betas.specs.Betas.{darts}
 use Rattle.orbits.proofs.ScratchLaws.{wiped-n, wiped-lent}
 use Rattle.sews.proofs.CallLaws.{scratch-lent, sew-left}

@@ -1,8 +1,7 @@
 -- `items::put_items` meets its contract: the three items, one behind the other. Assumes nothing.
 use native.Mathlib.Omega.{arith}
-use mathlib.Core.Path.{refl, sym, _∙_, ap}
+use mathlib.Core.Path.{_∙_}
 use Rattle.sews.proofs.EntryLaws.{all-length, written-three}
-use borrow.Author.Needs.{needs}
 use Rattle.sews.proofs.items.put_items.Statement.{statement}
 use Rattle.sews.proofs.items.put_items.Tie as tie
 

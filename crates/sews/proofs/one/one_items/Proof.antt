@@ -1,6 +1,6 @@
 -- `one::one_items` meets its contract. Assumes nothing.
 use native.Mathlib.Omega.{arith}
-use mathlib.Core.Path.{sym, _∙_}
+use mathlib.Core.Path.{_∙_}
 use Rattle.betas.specs.Betas.{darts}
 use Rattle.sews.proofs.EndLaws.{one-items-are}
 use Rattle.sews.proofs.SideLaws.{scratch-same, larger-below}

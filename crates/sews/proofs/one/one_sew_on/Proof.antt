@@ -1,8 +1,7 @@
 -- `one::one_sew_on` meets its contract: each return is one of the ways in which a 1-sew ends. Assumes nothing.
 use native.Mathlib.Omega.{arith}
-use mathlib.Core.Path.{sym, _∙_, refl}
+use mathlib.Core.Path.{sym, _∙_}
 use borrow.Author.Tests.{not-true, not-false}
-use Rattle.sews.proofs.OneBack.{links-formed}
 use Rattle.sews.proofs.OneRows.{one-linked}
 use Rattle.sews.proofs.EndLaws.{one-sew-refused, one-sew-tight, one-sew-done}
 use borrow.Author.Needs.{needs}

@@ -3,7 +3,6 @@ use native.Mathlib.Omega.{arith}
 use mathlib.Core.Path.{sym, _∙_}
 use borrow.Author.Tests.{not-true, not-false}
 use Rattle.sews.proofs.OneLaws.{inside, agrees-one, agrees-two}
-use borrow.Author.Needs.{needs}
 use Rattle.sews.proofs.one_links.agree.Statement.{statement}
 use Rattle.sews.proofs.one_links.agree.Tie as tie
 

@@ -3,7 +3,7 @@ use native.Mathlib.Omega.{arith}
 use mathlib.Core.Path.{sym, _∙_, _≡_}
 use borrow.Author.Tests.{not-true, not-false}
 use Rattle.betas.specs.Betas.{beta}
-use Rattle.sews.proofs.OneLaws.{inside, asks-link, asks-unlink, first-unlinked, unlinked-dart, unlinks-refused, unlinks-stray, unlinks-done}
+use Rattle.sews.proofs.OneLaws.{asks-link, asks-unlink, first-unlinked, unlinked-dart, unlinks-refused, unlinks-stray, unlinks-done}
 use borrow.Author.Needs.{needs}
 use Rattle.sews.proofs.one_links.one_unlinks.Statement.{statement}
 use Rattle.sews.proofs.one_links.one_unlinks.Tie as tie

@@ -1,6 +1,6 @@
 -- `sides::side_at` meets its contract. Assumes nothing.
 use native.Mathlib.Omega.{arith}
-use mathlib.Core.Path.{sym, _∙_}
+use mathlib.Core.Path.{_∙_}
 use Rattle.betas.specs.Betas.{darts}
 use Rattle.sews.proofs.SideLaws.{scratch-same, larger-below, side-is}
 use borrow.Author.Needs.{needs}

@@ -1,6 +1,5 @@
 -- `two::two_sew_on` meets its contract: the geometry test, then the link of the two sides. Assumes nothing.
-use native.Mathlib.Omega.{arith}
-use mathlib.Core.Path.{sym, _∙_}
+use mathlib.Core.Path.{_∙_}
 use Rattle.sews.proofs.SideLaws.{scratch-same, near-below, end-below, slot-lent}
 use Rattle.sews.proofs.EndLaws.{two-sew-bad, two-sew-good}
 use borrow.Author.Needs.{needs}

@@ -1,7 +1,5 @@
 -- `lines::put_class` meets its contract: wiped marks, the core on the first n of them, and the line of its list. Assumes nothing.
-use mathlib.Core.Path.{_≡_, refl, sym, ap, _∙_}
-use native.Mathlib.Omega.{arith}
-use Prim.Native.Nat.{ℕ}
+use mathlib.Core.Path.{sym}
 use Rattle.betas.specs.Betas.{darts}
 use Rattle.orbits.proofs.ScratchLaws.{wiped-n, wiped-zero, wiped-lent}
 use Rattle.summary.proofs.LineLaws.{listed-count, class-is, class-next, class-fits}

@@ -1,5 +1,5 @@
 -- `report::put_map` meets its contract: its five lines one behind the other. Assumes nothing.
-use mathlib.Core.Path.{_≡_, refl, sym, ap, _∙_}
+use mathlib.Core.Path.{refl, _∙_}
 use native.Mathlib.Omega.{arith}
 use Rattle.summary.proofs.LineLaws.{map-is, wiped-four, lists-over}
 use Rattle.betas.specs.Betas.{darts}

@@ -1,14 +1,12 @@
 -- `report::report_text` meets its contract: a refusal's line, or the lines of the map that the reader has left. Assumes nothing.
-use mathlib.Core.Path.{_≡_, refl, sym, ap, _∙_}
+use mathlib.Core.Path.{_≡_, sym, ap, _∙_}
 use native.Mathlib.Omega.{arith}
 use Prim.Native.Nat.{ℕ, _*_}
-use mathlib.Core.Bool.{Bool, true, false}
-use mathlib.Core.List.{List}
-use lib.Seq.{length-take-le}
+use mathlib.Core.Bool.{true}
 use borrow.Author.Tests.{not-true, not-false}
 use Rattle.betas.specs.Answers.{isDone}
 use Rattle.image.specs.Reads.{Accepted}
-use Rattle.text.specs.Texts.{Put, lay}
+use Rattle.text.specs.Texts.{lay}
 use Rattle.summary.proofs.ReportLaws.{more-is, refused-is, fit, formed, rows-n, flags-n, done-is, left-more, left-refused, left-done}
 use borrow.Author.Needs.{needs}
 use Rattle.summary.proofs.report.report_text.Statement.{statement}

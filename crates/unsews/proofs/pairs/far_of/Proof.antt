@@ -1,5 +1,4 @@
 -- `pairs::far_of` meets its contract. Assumes nothing.
-use native.Mathlib.Omega.{arith}
 use Rattle.unsews.proofs.PairLaws.{far-is, far-below}
 use borrow.Author.Needs.{needs}
 use Rattle.unsews.proofs.pairs.far_of.Statement.{statement}

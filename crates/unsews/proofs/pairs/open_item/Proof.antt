@@ -1,5 +1,4 @@
 -- `pairs::open_item` meets its contract. Assumes nothing.
-use native.Mathlib.Omega.{arith}
 use mathlib.Core.Path.{refl}
 use Rattle.unsews.proofs.PairLaws.{open-none, open-some}
 use borrow.Author.Needs.{needs}

@@ -2,7 +2,7 @@
 -- are as they were. Assumes nothing.
 use native.Mathlib.Omega.{arith}
 use Prim.Native.Nat.{_+_, _<_}
-use mathlib.Core.Path.{_≡_, refl, sym, ap, _∙_}
+use mathlib.Core.Path.{_≡_, refl, ap, _∙_}
 use lib.ListN.{length}
 use Rattle.betas.specs.Betas.{darts}
 use Rattle.sews.specs.Entries.{writtenAll}

@@ -1,6 +1,5 @@
 -- `tally::leg_over` meets its contract. Assumes nothing.
 use Rattle.unsews.proofs.LegLaws.{over-null, over-at}
-use borrow.Author.Needs.{needs}
 use Rattle.unsews.proofs.tally.leg_over.Statement.{statement}
 use Rattle.unsews.proofs.tally.leg_over.Tie as tie
 

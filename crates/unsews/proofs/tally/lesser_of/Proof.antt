@@ -1,7 +1,6 @@
 -- `tally::lesser_of` meets its contract. Assumes nothing.
 use native.Mathlib.Omega.{arith}
 use Rattle.unsews.proofs.LegLaws.{lesser-left, lesser-right}
-use borrow.Author.Needs.{needs}
 use Rattle.unsews.proofs.tally.lesser_of.Statement.{statement}
 use Rattle.unsews.proofs.tally.lesser_of.Tie as tie
 

@@ -21,14 +21,14 @@ use Rattle.betas.specs.declared.error.Told.{Told}
 use Rattle.betas.specs.Answers.{tellOf}
 use Rattle.betas.specs.Betas.{darts}
 use Rattle.orbits.specs.Loans.{Listed}
-use Rattle.orbits.specs.Calls.{wiped}
+use Rattle.orbits.specs.Calls.{wiped, written}
 use Rattle.orbits.proofs.ScratchLaws.{wiped-back}
 use Rattle.cells.specs.declared.identifiers.Class.{Class}
 use Rattle.cells.specs.declared.identifiers.Class.the-variants.{Vertex, Edge, Face, Volume}
 use Rattle.cells.specs.Cells.{listOf}
 use Rattle.text.specs.Texts.{decimal, put, lay, lineOf}
 use Rattle.text.proofs.TextLaws.{lay-then, lay-next}
-use Rattle.summary.specs.Report.{valueOf, refusedWord, dartsWord, usedWord, verticesWord, edgesWord, facesWord, volumesWord, toldLine, refusedLine, usedUpTo, headLine, classLine, mapText, over, listsOver}
+use Rattle.summary.specs.Report.{valueOf, refusedWord, dartsWord, usedWord, verticesWord, edgesWord, facesWord, volumesWord, toldLine, refusedLine, usedUpTo, headLine, classLine, mapText, listsOver}
 use Rattle.summary.proofs.Rooms.{value-room, decimal-room, items-front, class-room}
 
 pub value-next : (x : ℕ) (out : List ℕ) (at : ℕ) (o₁ o₂ : List ℕ) (a b : ℕ) → x < 18446744073709551616 →
@@ -194,8 +194,8 @@ wiped-four n l l₁ l₂ l₃ l₄ a b c d = d ∙ again l₂ l₃ c ∙ again l
     again x y e = ap (λ (t : List ℕ). replicate n 0 ++ t) (wiped-back n x y e)
 
 module _ (rows flags o o₁ o₂ o₃ o₄ : List ℕ) where
-  pub lists-over : o₁ ≡ over (listOf Vertex rows flags) o → o₂ ≡ over (listOf Edge rows flags) o₁ → o₃ ≡ over (listOf Face rows flags) o₂ →
-      o₄ ≡ over (listOf Volume rows flags) o₃ → o₄ ≡ listsOver rows flags o
+  pub lists-over : o₁ ≡ written (listOf Vertex rows flags) o → o₂ ≡ written (listOf Edge rows flags) o₁ → o₃ ≡ written (listOf Face rows flags) o₂ →
+      o₄ ≡ written (listOf Volume rows flags) o₃ → o₄ ≡ listsOver rows flags o
   unfolding listsOver
   lists-over a b c d =
-      d ∙ ap (over (listOf Volume rows flags)) (c ∙ ap (over (listOf Face rows flags)) (b ∙ ap (over (listOf Edge rows flags)) a))
+      d ∙ ap (written (listOf Volume rows flags)) (c ∙ ap (written (listOf Face rows flags)) (b ∙ ap (written (listOf Edge rows flags)) a))

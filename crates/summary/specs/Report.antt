@@ -10,12 +10,12 @@
 --   answerOf bytes       the reader's answer to an image of at most `most` darts, its loans long enough
 --   imageText bytes      the text of an image: five lines, or one that says what refuses it
 --   reportOf more bytes  the whole report; `more` says that the input has more than 46,080 bytes
---   over, listsOver      a list over an output's first places; the four lists, each over the one before it
+--   listsOver            an output with the four lists in its first places, each over the one before it
 --   Left, leaves, reportLeaves   what the report leaves in its other loans
 use Prim.Native.Nat.{ℕ, zero, suc, _+_, _-_}
 use mathlib.Core.List.{List, [], _∷_, _++_}
 use mathlib.Core.Bool.{Bool, cond, not, _&&_}
-use lib.ListN.{length, getD, drop}
+use lib.ListN.{length, getD}
 use lib.Ieee.{Float}
 use lib.Dec.{eqb}
 use Rattle.betas.specs.declared.error.Answer.{Answer}
@@ -29,7 +29,7 @@ use Rattle.stored.specs.Tests.{headerTest}
 use Rattle.image.specs.Tests.{blocksTest}
 use Rattle.image.specs.Content.{flagsOf}
 use Rattle.image.specs.Reads.{wrote}
-use Rattle.orbits.specs.Calls.{wiped}
+use Rattle.orbits.specs.Calls.{wiped, written}
 use Rattle.cells.specs.declared.identifiers.Class.{Class}
 use Rattle.cells.specs.declared.identifiers.Class.the-variants.{Vertex, Edge, Face, Volume}
 use Rattle.cells.specs.Cells.{listOf}
@@ -106,14 +106,10 @@ reportOf more bytes = cond more (refusedLine (Refused (BadImage 2))) (imageText 
 
 -- ---- what the report leaves in its other loans
 
--- a list over an output's first places
-abbrev pub over : List ℕ → List ℕ → List ℕ
-over l out = l ++ drop (length l) out
-
 -- the lists of the four classes, each over the one before it
 unfoldable pub listsOver : List ℕ → List ℕ → List ℕ → List ℕ
 listsOver rows flags out =
-    over (listOf Volume rows flags) (over (listOf Face rows flags) (over (listOf Edge rows flags) (over (listOf Vertex rows flags) out)))
+    written (listOf Volume rows flags) (written (listOf Face rows flags) (written (listOf Edge rows flags) (written (listOf Vertex rows flags) out)))
 
 pub record Left : Type 0 where
   pub flags : List ℕ

@@ -14,8 +14,8 @@ ghost use lib.ListN.{length};
 ghost use Rattle.betas.specs.Betas.{darts};
 ghost use Rattle.betas.specs.Maps.{WellFormed};
 ghost use Rattle.text.specs.Texts.{put, lay};
-ghost use Rattle.summary.specs.Report.{valueOf, refusedLine, usedUpTo, headLine, classLine, over};
-ghost use Rattle.orbits.specs.Calls.{wiped};
+ghost use Rattle.summary.specs.Report.{valueOf, refusedLine, usedUpTo, headLine, classLine};
+ghost use Rattle.orbits.specs.Calls.{wiped, written};
 ghost use Rattle.cells.specs.Cells.{listOf};
 
 // Writes a number after one space.
@@ -83,7 +83,7 @@ pub fn put_class(
 ) -> usize
     requires { ⌜ WellFormed (now rows) × (darts (now rows) ≤ 1024) × (darts (now rows) ≤ length (now marks)) × (darts (now rows) ≤ length (now queue)) × (darts (now rows) ≤ length (now output)) × (darts (now rows) ≤ length (now flags)) × (at + length (now name) + 5122 ≤ length (now text)) ⌝ }
     ensures { λ r. ⌜ (put r (now (text .exit)) ≡ lay (now (text .entry)) at (classLine (now (name .entry)) class (now (rows .entry)) (now (flags .entry)))) × (r ≤ at + length (now (name .entry)) + 5122) ⌝ }
-    ensures { λ r. ⌜ (now (marks .exit) ≡ wiped (darts (now (rows .entry))) (now (marks .entry))) × (now (queue .exit) ≡ wiped (darts (now (rows .entry))) (now (queue .entry))) × (now (output .exit) ≡ over (listOf class (now (rows .entry)) (now (flags .entry))) (now (output .entry))) ⌝ }
+    ensures { λ r. ⌜ (now (marks .exit) ≡ wiped (darts (now (rows .entry))) (now (marks .entry))) × (now (queue .exit) ≡ wiped (darts (now (rows .entry))) (now (queue .entry))) × (now (output .exit) ≡ written (listOf class (now (rows .entry)) (now (flags .entry))) (now (output .entry))) ⌝ }
 {
     let n = rows.len() / 4;
     wipe_marks(marks, n);

@@ -1,10 +1,10 @@
 #!/usr/bin/env python3
-"""Makes the list of answers that the crate `replay` runs: crates/replay/stdin.
+"""Makes the list of answers that the crate `replay` runs: crates/test_replay/stdin.
 
 The answers are printed by the comparison program of rig/compare:
 
     (for run in "1 1" "2 1" "3 41" "4 3001" "3 23 1" "3 23 2" "4 2003 1" "4 2003 2"; do compare answers $run; done
-     compare wrong 600 1) | make.py > crates/replay/stdin
+     compare wrong 600 1) | make.py > crates/test_replay/stdin
 
 The published Rust's own are every call on all maps of one and of two real darts, every 41st call on all maps of
 three, and every 3001st on all maps of four; then 2-sews with the coordinates of document 01's two lines, every 23rd on

@@ -3,9 +3,9 @@
 --   flatOf a   the number and the values of the answer a, from the one definition that gives them (`tellOf`)
 use Prim.Native.Nat.{ℕ}
 use mathlib.Core.List.{List, [], _∷_}
-use Rattle.betas.specs.declared.error.Answer.{Answer}
-use Rattle.betas.specs.declared.error.Told.{Told}
-use Rattle.betas.specs.Answers.{tellOf}
+use Rattle.map_betas.specs.declared.error.Answer.{Answer}
+use Rattle.map_betas.specs.declared.error.Told.{Told}
+use Rattle.map_betas.specs.Answers.{tellOf}
 
 pub record Flat : Type 0 where
   pub number : ℕ

@@ -1,6 +1,6 @@
 // An answer as it crosses to C.
-use betas::error::Answer;
-use betas::error::tell;
+use map_betas::error::Answer;
+use map_betas::error::tell;
 ghost use mathlib.Core.Path.{_≡_};
 ghost use Rattle.inkcapper.specs.Flat.{flat, flatOf};
 

@@ -1,8 +1,8 @@
 // Identifiers of cells.
 use crate::flat::hand_on;
 ghost use mathlib.Core.Path.{_≡_};
-ghost use Rattle.cells.specs.Calls.{idCall};
-ghost use Rattle.cells.specs.declared.identifiers.Class.the-variants.{Vertex, Edge, Face, Volume};
+ghost use Rattle.cell_names.specs.Calls.{idCall};
+ghost use Rattle.cell_names.specs.declared.identifiers.Class.the-variants.{Vertex, Edge, Face, Volume};
 ghost use Rattle.inkcapper.specs.Flat.{flat, flatOf};
 
 // The least dart of d's vertex.
@@ -18,7 +18,10 @@ pub extern "C" fn inkcapper_vertex_id(
     ensures { λ r. ⌜ now (marks .exit) ≡ idCall (now (rows .entry)) (now (marks .entry)) (now (queue .entry)) Vertex d .marks ⌝ }
     ensures { λ r. ⌜ now (queue .exit) ≡ idCall (now (rows .entry)) (now (marks .entry)) (now (queue .entry)) Vertex d .queue ⌝ }
 {
-    hand_on(cells::basic_ops::vertex_id(rows, marks, queue, d), values)
+    hand_on(
+        cell_calls::basic_ops::vertex_id(rows, marks, queue, d),
+        values,
+    )
 }
 
 // The least dart of d's edge.
@@ -34,7 +37,10 @@ pub extern "C" fn inkcapper_edge_id(
     ensures { λ r. ⌜ now (marks .exit) ≡ idCall (now (rows .entry)) (now (marks .entry)) (now (queue .entry)) Edge d .marks ⌝ }
     ensures { λ r. ⌜ now (queue .exit) ≡ idCall (now (rows .entry)) (now (marks .entry)) (now (queue .entry)) Edge d .queue ⌝ }
 {
-    hand_on(cells::basic_ops::edge_id(rows, marks, queue, d), values)
+    hand_on(
+        cell_calls::basic_ops::edge_id(rows, marks, queue, d),
+        values,
+    )
 }
 
 // The face identifier of d, as the Rust walks it.
@@ -50,7 +56,10 @@ pub extern "C" fn inkcapper_face_id(
     ensures { λ r. ⌜ now (marks .exit) ≡ idCall (now (rows .entry)) (now (marks .entry)) (now (queue .entry)) Face d .marks ⌝ }
     ensures { λ r. ⌜ now (queue .exit) ≡ idCall (now (rows .entry)) (now (marks .entry)) (now (queue .entry)) Face d .queue ⌝ }
 {
-    hand_on(cells::basic_ops::face_id(rows, marks, queue, d), values)
+    hand_on(
+        cell_calls::basic_ops::face_id(rows, marks, queue, d),
+        values,
+    )
 }
 
 // The least dart of d's volume.
@@ -66,5 +75,8 @@ pub extern "C" fn inkcapper_volume_id(
     ensures { λ r. ⌜ now (marks .exit) ≡ idCall (now (rows .entry)) (now (marks .entry)) (now (queue .entry)) Volume d .marks ⌝ }
     ensures { λ r. ⌜ now (queue .exit) ≡ idCall (now (rows .entry)) (now (marks .entry)) (now (queue .entry)) Volume d .queue ⌝ }
 {
-    hand_on(cells::basic_ops::volume_id(rows, marks, queue, d), values)
+    hand_on(
+        cell_calls::basic_ops::volume_id(rows, marks, queue, d),
+        values,
+    )
 }

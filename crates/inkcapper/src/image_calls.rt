@@ -1,7 +1,7 @@
 // The reader of stored images.
 use crate::flat::hand_on;
 ghost use mathlib.Core.Path.{_≡_};
-ghost use Rattle.image.specs.Reads.{readImage};
+ghost use Rattle.image_reader.specs.Reads.{readImage};
 ghost use Rattle.inkcapper.specs.Flat.{flat, flatOf};
 
 // Reads an image of form 1 into flags, vertex marks, coordinates and rows.
@@ -21,7 +21,7 @@ pub extern "C" fn inkcapper_read_image(
     ensures { λ r. ⌜ now (rows .exit) ≡ readImage (now (bytes .entry)) (now (flags .entry)) (now (vertices .entry)) (now (coordinates .entry)) (now (rows .entry)) .rows ⌝ }
 {
     hand_on(
-        image::reader::read_image(bytes, flags, vertices, coordinates, rows),
+        image_reader::reader::read_image(bytes, flags, vertices, coordinates, rows),
         values,
     )
 }

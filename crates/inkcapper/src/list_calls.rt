@@ -1,8 +1,8 @@
 // Lists of cells.
 use crate::flat::hand_on;
 ghost use mathlib.Core.Path.{_≡_};
-ghost use Rattle.cells.specs.Calls.{listCall};
-ghost use Rattle.cells.specs.declared.identifiers.Class.the-variants.{Vertex, Edge, Face, Volume};
+ghost use Rattle.cell_names.specs.Calls.{listCall};
+ghost use Rattle.cell_names.specs.declared.identifiers.Class.the-variants.{Vertex, Edge, Face, Volume};
 ghost use Rattle.inkcapper.specs.Flat.{flat, flatOf};
 
 // Lists the vertices of darts that are not unused, ascending.
@@ -21,7 +21,7 @@ pub extern "C" fn inkcapper_list_vertices(
     ensures { λ r. ⌜ now (output .exit) ≡ listCall (now (rows .entry)) (now (marks .entry)) (now (queue .entry)) (now (output .entry)) (now (flags .entry)) Vertex .output ⌝ }
 {
     hand_on(
-        cells::basic_ops::list_vertices(rows, marks, queue, output, flags),
+        cell_calls::basic_ops::list_vertices(rows, marks, queue, output, flags),
         values,
     )
 }
@@ -42,7 +42,7 @@ pub extern "C" fn inkcapper_list_edges(
     ensures { λ r. ⌜ now (output .exit) ≡ listCall (now (rows .entry)) (now (marks .entry)) (now (queue .entry)) (now (output .entry)) (now (flags .entry)) Edge .output ⌝ }
 {
     hand_on(
-        cells::basic_ops::list_edges(rows, marks, queue, output, flags),
+        cell_calls::basic_ops::list_edges(rows, marks, queue, output, flags),
         values,
     )
 }
@@ -63,7 +63,7 @@ pub extern "C" fn inkcapper_list_faces(
     ensures { λ r. ⌜ now (output .exit) ≡ listCall (now (rows .entry)) (now (marks .entry)) (now (queue .entry)) (now (output .entry)) (now (flags .entry)) Face .output ⌝ }
 {
     hand_on(
-        cells::basic_ops::list_faces(rows, marks, queue, output, flags),
+        cell_calls::basic_ops::list_faces(rows, marks, queue, output, flags),
         values,
     )
 }
@@ -84,7 +84,7 @@ pub extern "C" fn inkcapper_list_volumes(
     ensures { λ r. ⌜ now (output .exit) ≡ listCall (now (rows .entry)) (now (marks .entry)) (now (queue .entry)) (now (output .entry)) (now (flags .entry)) Volume .output ⌝ }
 {
     hand_on(
-        cells::basic_ops::list_volumes(rows, marks, queue, output, flags),
+        cell_calls::basic_ops::list_volumes(rows, marks, queue, output, flags),
         values,
     )
 }

@@ -1,9 +1,9 @@
 // Orbits, one function for each class.
 use crate::flat::hand_on;
-use orbits::policy::OrbitPolicy;
+use cell_steps::policy::OrbitPolicy;
 ghost use mathlib.Core.Path.{_≡_};
-ghost use Rattle.orbits.specs.Calls.{orbitCall, customCall};
-ghost use Rattle.orbits.specs.declared.policy.OrbitPolicy.the-variants.{Vertex, VertexLinear, Edge, Face, FaceLinear, Volume, VolumeLinear};
+ghost use Rattle.cell_steps.specs.Calls.{orbitCall, customCall};
+ghost use Rattle.cell_steps.specs.declared.policy.OrbitPolicy.the-variants.{Vertex, VertexLinear, Edge, Face, FaceLinear, Volume, VolumeLinear};
 ghost use Rattle.inkcapper.specs.Flat.{flat, flatOf};
 
 // Lists the Vertex orbit of d, first found first.
@@ -20,7 +20,7 @@ pub extern "C" fn inkcapper_orbit_vertex(
     ensures { λ r. ⌜ now (output .exit) ≡ orbitCall (now (rows .entry)) (now (marks .entry)) (now (output .entry)) Vertex d .output ⌝ }
 {
     hand_on(
-        orbits::orbits::orbit(rows, marks, output, OrbitPolicy::Vertex, d),
+        cell_orbits::orbits::orbit(rows, marks, output, OrbitPolicy::Vertex, d),
         values,
     )
 }
@@ -39,7 +39,7 @@ pub extern "C" fn inkcapper_orbit_vertex_linear(
     ensures { λ r. ⌜ now (output .exit) ≡ orbitCall (now (rows .entry)) (now (marks .entry)) (now (output .entry)) VertexLinear d .output ⌝ }
 {
     hand_on(
-        orbits::orbits::orbit(rows, marks, output, OrbitPolicy::VertexLinear, d),
+        cell_orbits::orbits::orbit(rows, marks, output, OrbitPolicy::VertexLinear, d),
         values,
     )
 }
@@ -58,7 +58,7 @@ pub extern "C" fn inkcapper_orbit_edge(
     ensures { λ r. ⌜ now (output .exit) ≡ orbitCall (now (rows .entry)) (now (marks .entry)) (now (output .entry)) Edge d .output ⌝ }
 {
     hand_on(
-        orbits::orbits::orbit(rows, marks, output, OrbitPolicy::Edge, d),
+        cell_orbits::orbits::orbit(rows, marks, output, OrbitPolicy::Edge, d),
         values,
     )
 }
@@ -77,7 +77,7 @@ pub extern "C" fn inkcapper_orbit_face(
     ensures { λ r. ⌜ now (output .exit) ≡ orbitCall (now (rows .entry)) (now (marks .entry)) (now (output .entry)) Face d .output ⌝ }
 {
     hand_on(
-        orbits::orbits::orbit(rows, marks, output, OrbitPolicy::Face, d),
+        cell_orbits::orbits::orbit(rows, marks, output, OrbitPolicy::Face, d),
         values,
     )
 }
@@ -96,7 +96,7 @@ pub extern "C" fn inkcapper_orbit_face_linear(
     ensures { λ r. ⌜ now (output .exit) ≡ orbitCall (now (rows .entry)) (now (marks .entry)) (now (output .entry)) FaceLinear d .output ⌝ }
 {
     hand_on(
-        orbits::orbits::orbit(rows, marks, output, OrbitPolicy::FaceLinear, d),
+        cell_orbits::orbits::orbit(rows, marks, output, OrbitPolicy::FaceLinear, d),
         values,
     )
 }
@@ -115,7 +115,7 @@ pub extern "C" fn inkcapper_orbit_volume(
     ensures { λ r. ⌜ now (output .exit) ≡ orbitCall (now (rows .entry)) (now (marks .entry)) (now (output .entry)) Volume d .output ⌝ }
 {
     hand_on(
-        orbits::orbits::orbit(rows, marks, output, OrbitPolicy::Volume, d),
+        cell_orbits::orbits::orbit(rows, marks, output, OrbitPolicy::Volume, d),
         values,
     )
 }
@@ -134,7 +134,7 @@ pub extern "C" fn inkcapper_orbit_volume_linear(
     ensures { λ r. ⌜ now (output .exit) ≡ orbitCall (now (rows .entry)) (now (marks .entry)) (now (output .entry)) VolumeLinear d .output ⌝ }
 {
     hand_on(
-        orbits::orbits::orbit(rows, marks, output, OrbitPolicy::VolumeLinear, d),
+        cell_orbits::orbits::orbit(rows, marks, output, OrbitPolicy::VolumeLinear, d),
         values,
     )
 }
@@ -154,7 +154,7 @@ pub extern "C" fn inkcapper_orbit_custom(
     ensures { λ r. ⌜ now (output .exit) ≡ customCall (now (rows .entry)) (now (marks .entry)) (now (output .entry)) (now (betas .entry)) d .output ⌝ }
 {
     hand_on(
-        orbits::orbits::orbit_custom(rows, marks, output, betas, d),
+        cell_orbits::orbits::orbit_custom(rows, marks, output, betas, d),
         values,
     )
 }

@@ -1,8 +1,8 @@
 // Sews and unsews.
 use crate::flat::hand_on;
 ghost use mathlib.Core.Path.{_≡_};
-ghost use Rattle.sews.specs.Calls.{oneSew, oneUnsew, twoSew, twoUnsew};
-ghost use Rattle.unsews.specs.Calls.{threeUnsew};
+ghost use Rattle.sew_ground.specs.Calls.{oneSew, oneUnsew, twoSew, twoUnsew};
+ghost use Rattle.sew_pairs.specs.Calls.{threeUnsew};
 ghost use Rattle.inkcapper.specs.Flat.{flat, flatOf};
 
 // The 1-sew of ld and rd.
@@ -23,7 +23,7 @@ pub extern "C" fn inkcapper_one_sew(
     ensures { λ r. ⌜ now (plan .exit) ≡ oneSew (now (rows .entry)) (now (marks .entry)) (now (queue .entry)) (now (plan .entry)) ld rd .plan ⌝ }
 {
     hand_on(
-        sews::calls::one_sew(rows, marks, queue, plan, ld, rd),
+        sew_operations::calls::one_sew(rows, marks, queue, plan, ld, rd),
         values,
     )
 }
@@ -44,7 +44,10 @@ pub extern "C" fn inkcapper_one_unsew(
     ensures { λ r. ⌜ now (queue .exit) ≡ oneUnsew (now (rows .entry)) (now (marks .entry)) (now (queue .entry)) (now (plan .entry)) ld .queue ⌝ }
     ensures { λ r. ⌜ now (plan .exit) ≡ oneUnsew (now (rows .entry)) (now (marks .entry)) (now (queue .entry)) (now (plan .entry)) ld .plan ⌝ }
 {
-    hand_on(sews::calls::one_unsew(rows, marks, queue, plan, ld), values)
+    hand_on(
+        sew_operations::calls::one_unsew(rows, marks, queue, plan, ld),
+        values,
+    )
 }
 
 // The 2-sew of ld and rd.
@@ -67,7 +70,7 @@ pub extern "C" fn inkcapper_two_sew(
     ensures { λ r. ⌜ now (plan .exit) ≡ twoSew (now (rows .entry)) (now (marks .entry)) (now (queue .entry)) (now (vertices .entry)) (now (coordinates .entry)) (now (plan .entry)) ld rd .plan ⌝ }
 {
     hand_on(
-        sews::calls::two_sew(rows, marks, queue, vertices, coordinates, plan, ld, rd),
+        sew_operations::calls::two_sew(rows, marks, queue, vertices, coordinates, plan, ld, rd),
         values,
     )
 }
@@ -88,7 +91,10 @@ pub extern "C" fn inkcapper_two_unsew(
     ensures { λ r. ⌜ now (queue .exit) ≡ twoUnsew (now (rows .entry)) (now (marks .entry)) (now (queue .entry)) (now (plan .entry)) ld .queue ⌝ }
     ensures { λ r. ⌜ now (plan .exit) ≡ twoUnsew (now (rows .entry)) (now (marks .entry)) (now (queue .entry)) (now (plan .entry)) ld .plan ⌝ }
 {
-    hand_on(sews::calls::two_unsew(rows, marks, queue, plan, ld), values)
+    hand_on(
+        sew_operations::calls::two_unsew(rows, marks, queue, plan, ld),
+        values,
+    )
 }
 
 // The 3-unsew of ld.
@@ -108,7 +114,7 @@ pub extern "C" fn inkcapper_three_unsew(
     ensures { λ r. ⌜ now (plan .exit) ≡ threeUnsew (now (rows .entry)) (now (marks .entry)) (now (queue .entry)) (now (plan .entry)) ld .plan ⌝ }
 {
     hand_on(
-        unsews::calls::three_unsew(rows, marks, queue, plan, ld),
+        sew_three_calls::calls::three_unsew(rows, marks, queue, plan, ld),
         values,
     )
 }

@@ -1,7 +1,7 @@
 // The report program: reads one image from standard input and writes what it holds, or what refuses it, to standard output.
 use libc::STDIN_FILENO;
 use libc::STDOUT_FILENO;
-use summary::report::report_text;
+use report_whole::report::report_text;
 
 // Holds one image of up to 46,080 bytes, and scratch for 1,024 darts.
 fn main() {

@@ -55,7 +55,9 @@ array-share-prefix-text : tie.Need-array-share-prefix-text
 array-share-prefix-text c = search needs
 
 slice-aggregate-write-all : tie.Need-slice-aggregate-write-all
-slice-aggregate-write-all c = sym (length-take-le (c .before .before .before .before .before .before .before .before .before .report-text .result) (c .before .before .before .before .before .before .before .before .before .report-text .last .1 .1 .1 .1 .1 .1 .1 .1 .1 .0) (omega (arith, c .before .before .before .before .before .before .before .before .before .report-text .ensures .0 .1, c .before .before .before .before .before .before .before .before .before .report-text .kept .1 .1 .1 .1 .1 .1 .1 .1 .1 .0)))
+slice-aggregate-write-all c =
+    let at-report-text = c .before .before .before .before .before .before .before .before .before in
+    sym (length-take-le (at-report-text .report-text .result) (at-report-text .report-text .last .1 .1 .1 .1 .1 .1 .1 .1 .1 .0) (omega (arith, at-report-text .report-text .ensures .0 .1, at-report-text .report-text .kept .1 .1 .1 .1 .1 .1 .1 .1 .1 .0)))
 
 write-all-requires : tie.Need-write-all-requires
 write-all-requires c κs = search needs

@@ -1,6 +1,6 @@
 -- `id_calls::inkcapper_volume_id` meets its contract: the call's answer, handed on. Assumes nothing.
 use mathlib.Core.Path.{_∙_, ap}
-use Rattle.cells.specs.Calls.{IdLeft}
+use Rattle.cell_names.specs.Calls.{IdLeft}
 use Rattle.inkcapper.specs.Flat.{flatOf}
 use borrow.Author.Needs.{needs}
 use Rattle.inkcapper.proofs.id_calls.inkcapper_volume_id.Statement.{statement}
@@ -19,13 +19,14 @@ same-length-2 : tie.Need-same-length-2
 same-length-2 c = search needs
 
 returns : tie.Need-returns
-returns c = (
-  c .hand-on .ensures ∙ ap (λ (o : IdLeft). flatOf (o .answer)) (c .before .before .before .before .before .before .volume-id .ensures),
-  (
-    ap (λ (o : IdLeft). o .marks) (c .before .before .before .before .before .before .volume-id .ensures),
-    ap (λ (o : IdLeft). o .queue) (c .before .before .before .before .before .before .volume-id .ensures),
-  ),
-)
+returns c =
+    let at-volume-id = c .before .before .before .before .before .before in (
+      c .hand-on .ensures ∙ ap (λ (o : IdLeft). flatOf (o .answer)) (at-volume-id .volume-id .ensures),
+      (
+        ap (λ (o : IdLeft). o .marks) (at-volume-id .volume-id .ensures),
+        ap (λ (o : IdLeft). o .queue) (at-volume-id .volume-id .ensures),
+      ),
+    )
 
 pub inkcapper-volume-id-spec : {M : Type 1} → statement M
 inkcapper-volume-id-spec =

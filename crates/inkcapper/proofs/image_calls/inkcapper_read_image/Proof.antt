@@ -1,6 +1,6 @@
 -- `image_calls::inkcapper_read_image` meets its contract: the call's answer, handed on. Assumes nothing.
 use mathlib.Core.Path.{_∙_, ap}
-use Rattle.image.specs.Reads.{Read}
+use Rattle.image_reader.specs.Reads.{Read}
 use Rattle.inkcapper.specs.Flat.{flatOf}
 use borrow.Author.Needs.{needs}
 use Rattle.inkcapper.proofs.image_calls.inkcapper_read_image.Statement.{statement}
@@ -25,19 +25,20 @@ same-length-4 : tie.Need-same-length-4
 same-length-4 c = search needs
 
 returns : tie.Need-returns
-returns c = (
-  c .hand-on .ensures ∙ ap (λ (o : Read). flatOf (o .answer)) (c .before .before .before .before .before .before .before .before .before .before .read-image .ensures),
-  (
-    ap (λ (o : Read). o .flags) (c .before .before .before .before .before .before .before .before .before .before .read-image .ensures),
-    (
-      ap (λ (o : Read). o .vertices) (c .before .before .before .before .before .before .before .before .before .before .read-image .ensures),
+returns c =
+    let at-read-image = c .before .before .before .before .before .before .before .before .before .before in (
+      c .hand-on .ensures ∙ ap (λ (o : Read). flatOf (o .answer)) (at-read-image .read-image .ensures),
       (
-        ap (λ (o : Read). o .coordinates) (c .before .before .before .before .before .before .before .before .before .before .read-image .ensures),
-        ap (λ (o : Read). o .rows) (c .before .before .before .before .before .before .before .before .before .before .read-image .ensures),
+        ap (λ (o : Read). o .flags) (at-read-image .read-image .ensures),
+        (
+          ap (λ (o : Read). o .vertices) (at-read-image .read-image .ensures),
+          (
+            ap (λ (o : Read). o .coordinates) (at-read-image .read-image .ensures),
+            ap (λ (o : Read). o .rows) (at-read-image .read-image .ensures),
+          ),
+        ),
       ),
-    ),
-  ),
-)
+    )
 
 pub inkcapper-read-image-spec : {M : Type 1} → statement M
 inkcapper-read-image-spec =

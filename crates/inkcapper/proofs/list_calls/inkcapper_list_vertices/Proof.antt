@@ -1,6 +1,6 @@
 -- `list_calls::inkcapper_list_vertices` meets its contract: the call's answer, handed on. Assumes nothing.
 use mathlib.Core.Path.{_∙_, ap}
-use Rattle.cells.specs.Calls.{ListLeft}
+use Rattle.cell_names.specs.Calls.{ListLeft}
 use Rattle.inkcapper.specs.Flat.{flatOf}
 use borrow.Author.Needs.{needs}
 use Rattle.inkcapper.proofs.list_calls.inkcapper_list_vertices.Statement.{statement}
@@ -22,16 +22,17 @@ same-length-3 : tie.Need-same-length-3
 same-length-3 c = search needs
 
 returns : tie.Need-returns
-returns c = (
-  c .hand-on .ensures ∙ ap (λ (o : ListLeft). flatOf (o .answer)) (c .before .before .before .before .before .before .before .before .list-vertices .ensures),
-  (
-    ap (λ (o : ListLeft). o .marks) (c .before .before .before .before .before .before .before .before .list-vertices .ensures),
-    (
-      ap (λ (o : ListLeft). o .queue) (c .before .before .before .before .before .before .before .before .list-vertices .ensures),
-      ap (λ (o : ListLeft). o .output) (c .before .before .before .before .before .before .before .before .list-vertices .ensures),
-    ),
-  ),
-)
+returns c =
+    let at-list-vertices = c .before .before .before .before .before .before .before .before in (
+      c .hand-on .ensures ∙ ap (λ (o : ListLeft). flatOf (o .answer)) (at-list-vertices .list-vertices .ensures),
+      (
+        ap (λ (o : ListLeft). o .marks) (at-list-vertices .list-vertices .ensures),
+        (
+          ap (λ (o : ListLeft). o .queue) (at-list-vertices .list-vertices .ensures),
+          ap (λ (o : ListLeft). o .output) (at-list-vertices .list-vertices .ensures),
+        ),
+      ),
+    )
 
 pub inkcapper-list-vertices-spec : {M : Type 1} → statement M
 inkcapper-list-vertices-spec =

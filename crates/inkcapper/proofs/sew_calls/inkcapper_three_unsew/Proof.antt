@@ -1,6 +1,6 @@
 -- `sew_calls::inkcapper_three_unsew` meets its contract: the call's answer, handed on. Assumes nothing.
 use mathlib.Core.Path.{_∙_, ap}
-use Rattle.sews.specs.Calls.{SewLeft}
+use Rattle.sew_ground.specs.Calls.{SewLeft}
 use Rattle.inkcapper.specs.Flat.{flatOf}
 use borrow.Author.Needs.{needs}
 use Rattle.inkcapper.proofs.sew_calls.inkcapper_three_unsew.Statement.{statement}
@@ -25,19 +25,20 @@ same-length-4 : tie.Need-same-length-4
 same-length-4 c = search needs
 
 returns : tie.Need-returns
-returns c = (
-  c .hand-on .ensures ∙ ap (λ (o : SewLeft). flatOf (o .answer)) (c .before .before .before .before .before .before .before .before .before .before .three-unsew .ensures),
-  (
-    ap (λ (o : SewLeft). o .rows) (c .before .before .before .before .before .before .before .before .before .before .three-unsew .ensures),
-    (
-      ap (λ (o : SewLeft). o .marks) (c .before .before .before .before .before .before .before .before .before .before .three-unsew .ensures),
+returns c =
+    let at-three-unsew = c .before .before .before .before .before .before .before .before .before .before in (
+      c .hand-on .ensures ∙ ap (λ (o : SewLeft). flatOf (o .answer)) (at-three-unsew .three-unsew .ensures),
       (
-        ap (λ (o : SewLeft). o .queue) (c .before .before .before .before .before .before .before .before .before .before .three-unsew .ensures),
-        ap (λ (o : SewLeft). o .plan) (c .before .before .before .before .before .before .before .before .before .before .three-unsew .ensures),
+        ap (λ (o : SewLeft). o .rows) (at-three-unsew .three-unsew .ensures),
+        (
+          ap (λ (o : SewLeft). o .marks) (at-three-unsew .three-unsew .ensures),
+          (
+            ap (λ (o : SewLeft). o .queue) (at-three-unsew .three-unsew .ensures),
+            ap (λ (o : SewLeft). o .plan) (at-three-unsew .three-unsew .ensures),
+          ),
+        ),
       ),
-    ),
-  ),
-)
+    )
 
 pub inkcapper-three-unsew-spec : {M : Type 1} → statement M
 inkcapper-three-unsew-spec =

@@ -1,0 +1,69 @@
+-- `basic_ops::id_call` meets its contract: refused by the guard, or done. Assumes nothing.
+use mathlib.Core.Path.{_≡_, sym, ap, _∙_}
+use mathlib.Core.Bool.{true}
+use borrow.Author.Tests.{not-true, not-false}
+use Rattle.map_betas.specs.declared.loans.Loans.{Loans}
+use Rattle.map_betas.specs.Answers.{isDone}
+use Rattle.map_betas.specs.Guards.{guardOf}
+use Rattle.cell_names.specs.Calls.{idGuard, idCall}
+use Rattle.cell_names.proofs.LeftLaws.{id-refused, id-passed, id-ready}
+use borrow.Author.Needs.{needs}
+use Rattle.cell_calls.proofs.basic_ops.id_call.Statement.{statement}
+use Rattle.cell_calls.proofs.basic_ops.id_call.Tie as tie
+
+-- the guard's answer is the definition's
+guarded : (c : tie.After-guard) → c .guard .result ≡ idGuard (c .before .before .before .before .before .args .rows .now) (c .before .before .before .before .before .args .marks .now) (c .before .before .before .before .before .args .queue .now) (c .before .before .before .before .before .args .d)
+guarded c =
+    let entry = c .before .before .before .before .before in
+    c .guard .ensures ∙ ap (λ (l : Loans). guardOf (entry .args .rows .now) l 0 (entry .args .d) (entry .args .d)) (c .before .scratch .ensures)
+
+passed : (c : tie.Else1) → isDone (c .before .before .guard .result) ≡ true
+passed c = sym (c .before .is-done .ensures) ∙ not-false _ (c .if1 .left)
+
+scratch-requires : tie.Need-scratch-requires
+scratch-requires c κs = search needs
+
+guard-requires : tie.Need-guard-requires
+guard-requires c κs = search needs
+
+is-done-requires : tie.Need-is-done-requires
+is-done-requires c κs = search needs
+
+returns : tie.Need-returns
+unfolding idCall
+returns c = id-refused (c .before .before .guard .result) _ (guarded (c .before .before)) _ _ _ (sym (c .before .is-done .ensures) ∙ not-true _ (c .if1 .taken))
+
+id-done-requires : tie.Need-id-done-requires
+id-done-requires c κs =
+    let back4 = c .before .before .before .before in
+    let back9 = back4 .before .before .before .before .before in
+    let s = back9 in
+    let r = id-ready (s .args .rows .now) (s .args .marks .now) (s .args .queue .now) (s .args .d) _ (guarded back4) (passed (c .before .before)) in
+    (r .formed, r .lent .marks, r .lent .queue, r .left .below)
+
+same-length : tie.Need-same-length
+same-length c = search needs
+
+same-length-2 : tie.Need-same-length-2
+same-length-2 c = search needs
+
+returns-2 : tie.Need-returns-2
+unfolding idCall
+returns-2 c =
+    let at-id-done = c .before .before .before .before in
+    let back7 = at-id-done .before .before .before in
+    let at-guard = back7 .before .before in
+    at-id-done .id-done .ensures ∙ id-passed (at-guard .guard .result) _ (guarded at-guard) _ _ _ (passed back7)
+
+pub id-call-spec : {M : Type 1} → statement M
+id-call-spec =
+    tie.close
+    (tie.spec
+    scratch-requires
+    guard-requires
+    is-done-requires
+    returns
+    id-done-requires
+    same-length
+    same-length-2
+    returns-2)

@@ -1,0 +1,131 @@
+-- `list::go_round` meets its contract, by the invariant `Rounding`. Assumes nothing.
+use mathlib.Core.Path.{_≡_, _∙_}
+use Prim.Native.Nat.{suc, _-_, _<_}
+use native.Mathlib.Omega.{arith}
+use Rattle.map_betas.specs.Betas.{darts}
+use Rattle.cell_faces.proofs.RoundLaws.{Rounding, rounding-starts, rounding-turn, rounding-ends, rounding-out}
+use Rattle.cell_face_lists.proofs.list.go_round.Statement.{statement}
+use Rattle.cell_face_lists.proofs.list.go_round.Tie as tie
+
+abbrev Inv-loop : tie.InvT-loop
+Inv-loop rows marks₀ queue₀ known d left₀ k₀ x₀ marks queue left k x = Rounding rows d marks₀ queue₀ known marks queue left k x
+
+abbrev μ-loop : tie.MeasureT-loop
+μ-loop rows marks₀ queue₀ known d left₀ k₀ x₀ marks queue left k x = left
+
+loop-holds : tie.Need-loop-holds Inv-loop μ-loop
+loop-holds c = rounding-starts _ _ _ _ _ (c .before .before .before .pre .2) (c .before .before .before .pre .1)
+
+push-requires : tie.Need-push-requires Inv-loop μ-loop
+push-requires c κs =
+    let back7 = c .before .before .before .before .before .before .before in
+    let v = c .before .before .before .loop .inv in
+    let s = back7 in (
+      v .grown .queue,
+      omega (arith, v .marks-n, v .x-lt, s .pre .0 .marks-n),
+      omega (arith, v .marks-n, v .queue-same, s .pre .0 .marks-n, s .pre .0 .queue-n),
+    )
+
+beta-at-requires : tie.Need-beta-at-requires Inv-loop μ-loop
+beta-at-requires c κs =
+    let at-loop = c .before .before .before .before .before .before .before .before .before .before in
+    let entry = at-loop .before .before .before .before in
+    omega (arith, at-loop .loop .inv .x-lt, entry .pre .0 .formed .sized .whole)
+
+push-requires-2 : tie.Need-push-requires-2 Inv-loop μ-loop
+push-requires-2 c κs =
+    let at-push = c .before .before .before .before .before .before .before in
+    let at-loop = at-push .before .before .before .before in
+    let back15 = at-loop .before .before .before .before in
+    let v = at-loop .loop .inv in
+    let s = back15 in
+    let g = at-push .push in
+    let h : c .beta-at .result < darts (s .args .rows .now) = rw (c .beta-at .ensures) (s .pre .0 .formed .below _ _) in (
+      g .ensures .queue,
+      omega (arith, g .kept .0, v .marks-n, s .pre .0 .marks-n),
+      omega (arith, g .kept .0, g .kept .1 .0, v .marks-n, v .queue-same, s .pre .0 .marks-n, s .pre .0 .queue-n),
+    )
+
+beta-at-requires-2 : tie.Need-beta-at-requires-2 Inv-loop μ-loop
+beta-at-requires-2 c κs =
+    let at-loop = c .before .before .before .before .before .before .before .before .before .before .before .before .before .before .before .before in
+    let entry = at-loop .before .before .before .before in
+    omega (arith, at-loop .loop .inv .x-lt, entry .pre .0 .formed .sized .whole)
+
+same-length : tie.Need-same-length Inv-loop μ-loop
+same-length c =
+    let at-push2 = c .before .before .before .before .before .before in
+    let at-push = at-push2 .before .before .before .before .before .before .before .before in
+    let at-loop = at-push .before .before .before .before in
+    at-push2 .push2 .kept .0 ∙ at-push .push .kept .0 ∙ at-loop .loop .inv .marks-n
+
+same-length-2 : tie.Need-same-length-2 Inv-loop μ-loop
+same-length-2 c =
+    let at-push2 = c .before .before .before .before .before .before in
+    let at-push = at-push2 .before .before .before .before .before .before .before .before in
+    let at-loop = at-push .before .before .before .before in
+    at-push2 .push2 .kept .1 .0 ∙ at-push .push .kept .1 .0 ∙ at-loop .loop .inv .queue-same
+
+returns : tie.Need-returns Inv-loop μ-loop
+returns c =
+    let at-push2 = c .before .before .before .before .before .before in
+    let at-beta-at = at-push2 .before in
+    let at-push = at-beta-at .before .before .before .before .before .before .before in
+    let at-loop-test = at-push .before .before .before in
+    let at-loop = at-loop-test .before in
+    let l = at-loop .loop in
+    let e : l .left ≡ suc (l .left - 1) = omega (arith, at-loop-test .loop-test .taken) in
+    rounding-ends _ _ _ _ _ _ _ _ _ _ (l .inv) _ e _ (at-beta-at .beta-at .ensures) _ _ _ (at-push .push .ensures) _ _ _ (at-push2 .push2 .ensures) _ (c .before .beta-at2 .ensures) (c .if1 .taken)
+
+sub-left : tie.Need-sub-left Inv-loop μ-loop
+sub-left c =
+    let at-loop-test = c .before .before .before .before .before .before .before .before .before .before .before .before .before .before .before .before .before in
+    omega (arith, at-loop-test .loop-test .taken)
+
+loop-less : tie.Need-loop-less Inv-loop μ-loop
+loop-less c =
+    let at-loop-test = c .before .before .before .before .before .before .before .before .before .before .before .before .before .before .before .before .before in
+    omega (arith, at-loop-test .loop-test .taken)
+
+loop-again : tie.Need-loop-again Inv-loop μ-loop
+loop-again c =
+    let at-push2 = c .before .before .before .before .before .before in
+    let at-beta-at = at-push2 .before in
+    let at-push = at-beta-at .before .before .before .before .before .before .before in
+    let at-loop-test = at-push .before .before .before in
+    let at-loop = at-loop-test .before in
+    let entry = at-loop .before .before .before .before in
+    let l = at-loop .loop in
+    let e : l .left ≡ suc (l .left - 1) = omega (arith, at-loop-test .loop-test .taken) in
+    rounding-turn _ _ _ _ _ _ _ _ _ _ (l .inv) _ e _ (at-beta-at .beta-at .ensures) _ _ _ (at-push .push .ensures) _ _ _ (at-push2 .push2 .ensures) _ (c .before .beta-at2 .ensures) (c .if1 .left)
+    (entry .pre .0 .formed .below) (at-push .push .kept .0) (at-push .push .kept .1 .0) (at-push2 .push2 .kept .0) (at-push2 .push2 .kept .1 .0)
+
+same-length-3 : tie.Need-same-length-3 Inv-loop μ-loop
+same-length-3 c = c .before .loop .inv .marks-n
+
+same-length-4 : tie.Need-same-length-4 Inv-loop μ-loop
+same-length-4 c = c .before .loop .inv .queue-same
+
+returns-2 : tie.Need-returns-2 Inv-loop μ-loop
+returns-2 c = rounding-out _ _ _ _ _ _ _ _ _ _ (c .before .loop .inv) (omega (arith, c .loop-test .left))
+
+pub go-round-spec : {M : Type 1} → statement M
+go-round-spec =
+    tie.close
+    (tie.spec
+    Inv-loop
+    μ-loop
+    loop-holds
+    push-requires
+    beta-at-requires
+    push-requires-2
+    beta-at-requires-2
+    same-length
+    same-length-2
+    returns
+    sub-left
+    loop-less
+    loop-again
+    same-length-3
+    same-length-4
+    returns-2)

@@ -1,0 +1,87 @@
+-- What identifiers and lists are, for a reader: each law for every well-formed map and every dart of it.
+--   Least                                   x is the least dart of d's cell
+--   vertex-least, edge-least, volume-least  the identifier is the least dart of the CGAL manual's cell
+--   vertex-same, edge-same, volume-same     darts have one identifier exactly where they are in one cell
+--   face-least                              so it is for a regular face
+--   null-ident                              the identifier of the null dart is 0
+--   listed-exactly, listed-ascending        what a list holds, and that it ascends
+-- Assumes nothing.
+use Prim.Native.Nat.{ℕ, _≤_, _<_}
+use mathlib.Core.Path.{_≡_, sym, subst}
+use mathlib.Core.Logic.{_↔_}
+use mathlib.Core.List.{List}
+use Rattle.map_betas.specs.Betas.{darts}
+use Rattle.map_betas.specs.Maps.{WellFormed}
+use Rattle.cell_steps.specs.declared.policy.OrbitPolicy.{OrbitPolicy}
+use Rattle.cell_steps.specs.declared.policy.OrbitPolicy.the-variants as policy
+use Rattle.cell_steps.specs.Steps.{IsStep, vertex, edge, face, volume, stepsOf}
+use Rattle.cell_steps.specs.Search.{In}
+use Rattle.cell_steps.specs.Cgal.{Orbit, vertexΦ, edgeΦ, faceΦ, volumeΦ}
+use Rattle.cell_steps.specs.Idents.{ident}
+use Rattle.cell_steps.proofs.Lists.{at-in}
+use Rattle.cell_steps.proofs.StepLaws.{steps-are}
+use Rattle.cell_steps.proofs.CgalLaws.{Serves, vertex-serves, edge-serves, face-serves, volume-serves}
+use Rattle.cell_steps.proofs.CellLaws.{ident-in, ident-first, one-ident, ident-null}
+use Rattle.cell_joins.specs.CellLists.{Ascending}
+use Rattle.cell_joins.proofs.MemberLaws as members
+use Rattle.cell_faces.specs.Faces.{faceId, Regular}
+use Rattle.cell_faces.proofs.RegularLaws.{face-id-least, face-null}
+use Rattle.cell_names.specs.declared.identifiers.Class.{Class}
+use Rattle.cell_names.specs.declared.identifiers.Class.the-variants.{Vertex, Edge, Face, Volume}
+use Rattle.cell_names.specs.Cells.{identOf, listOf}
+
+-- "Vertex, edge and volume identifiers are the least dart of the orbit"
+pub record Least (rows : List ℕ) (Φ : List (List ℕ)) (d x : ℕ) : Type 0 where
+  pub inside : Orbit rows Φ d x
+  pub lowest : (y : ℕ) → Orbit rows Φ d y → x ≤ y
+
+module _ (rows : List ℕ) (w : WellFormed rows) where
+  least-of : (steps : List ℕ) (Φ : List (List ℕ)) → Serves steps Φ → (d : ℕ) → d < darts rows → Least rows Φ d (ident rows steps d)
+  least-of steps Φ k d h = record { inside = ident-in steps Φ k rows w d h; lowest = ident-first steps Φ k rows w d h }
+
+  pub vertex-least : (d : ℕ) → d < darts rows → Least rows vertexΦ d (identOf Vertex rows d)
+  vertex-least = least-of vertex vertexΦ vertex-serves
+
+  pub edge-least : (d : ℕ) → d < darts rows → Least rows edgeΦ d (identOf Edge rows d)
+  edge-least = least-of edge edgeΦ edge-serves
+
+  pub volume-least : (d : ℕ) → d < darts rows → Least rows volumeΦ d (identOf Volume rows d)
+  volume-least = least-of volume volumeΦ volume-serves
+
+  -- "Where the chain is closed and .. it is proved least of the Face orbit." (`faces/proofs/RegularLaws.antt` has the two cases.)
+  pub face-least : (d : ℕ) → d < darts rows → (d ≡ 0 → ⊥) → Regular rows d → Least rows faceΦ d (identOf Face rows d)
+  face-least d h real v = subst (Least rows faceΦ d) (sym (face-id-least rows w d h real v)) (least-of face faceΦ face-serves d h)
+
+  module _ (d e : ℕ) (h : d < darts rows) (h′ : e < darts rows) where
+    pub vertex-same : (identOf Vertex rows d ≡ identOf Vertex rows e) ↔ Orbit rows vertexΦ d e
+    vertex-same = one-ident vertex vertexΦ vertex-serves rows w d e h h′
+
+    pub edge-same : (identOf Edge rows d ≡ identOf Edge rows e) ↔ Orbit rows edgeΦ d e
+    edge-same = one-ident edge edgeΦ edge-serves rows w d e h h′
+
+    pub volume-same : (identOf Volume rows d ≡ identOf Volume rows e) ↔ Orbit rows volumeΦ d e
+    volume-same = one-ident volume volumeΦ volume-serves rows w d e h h′
+
+  are-steps : (p : OrbitPolicy) (c : ℕ) → In c (stepsOf p) → IsStep c
+  are-steps p c m = let q = at-in m in subst IsStep (q .2) (steps-are p .each (q .0) (q .1))
+
+  -- "of 0, 0"
+  pub null-ident : (class : Class) → identOf class rows 0 ≡ 0
+  null-ident Vertex = ident-null rows w vertex (are-steps policy.Vertex)
+  null-ident Edge = ident-null rows w edge (are-steps policy.Edge)
+  null-ident Face = face-null rows w
+  null-ident Volume = ident-null rows w volume (are-steps policy.Volume)
+
+-- "every d from 1 to n-1 not unused whose identifier is d, ascending", for any rows
+module _ (rows flags : List ℕ) where
+  pub listed-exactly : (class : Class) (x : ℕ) → In x (listOf class rows flags) ↔ ((1 ≤ x) × (x < darts rows) × members.Own (identOf class rows) flags x)
+  listed-exactly Vertex x = members.listed-exactly (ident rows vertex) flags (darts rows) x
+  listed-exactly Edge x = members.listed-exactly (ident rows edge) flags (darts rows) x
+  listed-exactly Face x = members.listed-exactly (faceId rows) flags (darts rows) x
+  listed-exactly Volume x = members.listed-exactly (ident rows volume) flags (darts rows) x
+
+  pub listed-ascending : (class : Class) → Ascending (listOf class rows flags)
+  listed-ascending Vertex = members.listed-ascending (ident rows vertex) flags (darts rows)
+  listed-ascending Edge = members.listed-ascending (ident rows edge) flags (darts rows)
+  listed-ascending Face = members.listed-ascending (faceId rows) flags (darts rows)
+  listed-ascending Volume = members.listed-ascending (ident rows volume) flags (darts rows)

@@ -1,0 +1,26 @@
+-- The identifier and the list of each class of cells.
+--   identOf class rows d      the identifier of d's cell
+--   listOf class rows flags   the list of the cells
+use Prim.Native.Nat.{ℕ}
+use mathlib.Core.List.{List}
+use Rattle.map_betas.specs.Betas.{darts}
+use Rattle.cell_steps.specs.Steps.{vertex, edge, volume}
+use Rattle.cell_steps.specs.Idents.{ident}
+use Rattle.cell_joins.specs.CellLists.{cellsBy}
+use Rattle.cell_faces.specs.Faces.{faceId}
+use Rattle.cell_names.specs.declared.identifiers.Class.{Class}
+use Rattle.cell_names.specs.declared.identifiers.Class.the-variants.{Vertex, Edge, Face, Volume}
+
+-- "Vertex, edge and volume identifiers are the least dart of the orbit"; "`face_id` follows the Rust even where it isn't least"
+abbrev pub identOf : Class → List ℕ → ℕ → ℕ
+identOf Vertex rows d = ident rows vertex d
+identOf Edge rows d = ident rows edge d
+identOf Face rows d = faceId rows d
+identOf Volume rows d = ident rows volume d
+
+-- "A cell list is every d from 1 to n-1 not unused whose identifier is d, ascending."
+abbrev pub listOf : Class → List ℕ → List ℕ → List ℕ
+listOf Vertex rows flags = cellsBy (ident rows vertex) (darts rows) flags
+listOf Edge rows flags = cellsBy (ident rows edge) (darts rows) flags
+listOf Face rows flags = cellsBy (faceId rows) (darts rows) flags
+listOf Volume rows flags = cellsBy (ident rows volume) (darts rows) flags

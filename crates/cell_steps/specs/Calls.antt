@@ -1,0 +1,65 @@
+-- What an orbit call answers, and what it leaves of its loans.
+--   Left              an answer, the marks and the output
+--   wiped n l         l with its first n places 0
+--   written l out     out with l in its first places
+--   orbitDone         an orbit call that is not refused
+--   customTest betas  refuses the first value of a Custom list that is no beta
+--   orbitCall, customCall   the calls
+use Prim.Native.Nat.{ℕ}
+use mathlib.Core.Bool.{cond}
+use mathlib.Core.List.{List, [], _∷_, _++_}
+use lib.Dec.{ltb}
+use lib.ListN.{length, drop, replicate}
+use Rattle.map_betas.specs.declared.error.Answer.{Answer}
+use Rattle.map_betas.specs.declared.error.Answer.the-variants.{Done, Refused}
+use Rattle.map_betas.specs.declared.error.Refusal.the-variants.{BadBeta}
+use Rattle.map_betas.specs.Betas.{darts}
+use Rattle.map_betas.specs.Answers.{pass, isDone, andThen}
+use Rattle.map_betas.specs.Guards.{orbitLoans, guardOf}
+use Rattle.cell_steps.specs.declared.policy.OrbitPolicy.{OrbitPolicy}
+use Rattle.cell_steps.specs.Steps.{stepsOf}
+use Rattle.cell_steps.specs.Search.{orbit}
+
+pub record Left : Type 0 where
+  pub answer : Answer
+  pub marks : List ℕ
+  pub output : List ℕ
+
+abbrev pub left : Answer → List ℕ → List ℕ → Left
+left a marks output = record { answer = a; marks = marks; output = output }
+
+-- "its first n places are 0 and the rest unchanged"
+abbrev pub wiped : ℕ → List ℕ → List ℕ
+wiped n l = replicate n 0 ++ drop n l
+
+-- "Output .. beyond the count [is] unchanged."
+abbrev pub written : List ℕ → List ℕ → List ℕ
+written l out = l ++ drop (length l) out
+
+-- the count is the orbit's own length
+abbrev pub orbitDone : List ℕ → List ℕ → List ℕ → List ℕ → ℕ → Left
+orbitDone rows marks output steps d =
+    left (Done 0 (length (orbit rows steps d))) (wiped (darts rows) marks) (written (orbit rows steps d) output)
+
+-- "beta number above 3, .. first in a Custom list"
+unfoldable pub customTest : List ℕ → Answer
+customTest [] = pass
+customTest (b ∷ bs) =
+    let more = customTest bs in
+    cond (ltb 3 b) (Refused (BadBeta b)) more
+
+-- "After any refusal .. output [is] unchanged. Scratch: unchanged after 1 to 5"
+abbrev pub behind : Answer → List ℕ → List ℕ → Left → Left
+behind g marks output o = cond (isDone g) o (left g marks output)
+
+abbrev pub orbitGuard : List ℕ → List ℕ → List ℕ → ℕ → Answer
+orbitGuard rows marks output d = guardOf rows (orbitLoans (length marks) (length output)) 0 d d
+
+unfoldable pub orbitCall : List ℕ → List ℕ → List ℕ → OrbitPolicy → ℕ → Left
+orbitCall rows marks output policy d =
+    behind (orbitGuard rows marks output d) marks output (orbitDone rows marks output (stepsOf policy) d)
+
+-- "Custom: the listed betas in order, possibly none."
+unfoldable pub customCall : List ℕ → List ℕ → List ℕ → List ℕ → ℕ → Left
+customCall rows marks output betas d =
+    behind (andThen (orbitGuard rows marks output d) (customTest betas)) marks output (orbitDone rows marks output betas d)

@@ -1,0 +1,26 @@
+-- The least dart of an orbit, and how many darts it has.
+--   leastFrom x l       the least of x and the list l
+--   least l             the least of a list; 0 of none
+--   ident rows steps d  the least dart of the orbit of d: its cell's identifier
+--   cellOf rows steps d the identifier and the number of darts, as the core returns them
+use Prim.Native.Nat.{ℕ, min}
+use mathlib.Core.List.{List, [], _∷_}
+use lib.ListN.{length}
+use Rattle.cell_steps.specs.declared.cells.Cell.{Cell}
+use Rattle.cell_steps.specs.Search.{orbit}
+
+unfoldable pub leastFrom : ℕ → List ℕ → ℕ
+leastFrom x [] = x
+leastFrom x (y ∷ l) = leastFrom (min x y) l
+
+unfoldable pub least : List ℕ → ℕ
+unfolding leastFrom
+least [] = 0
+least (x ∷ l) = leastFrom x l
+
+-- "Vertex, edge and volume identifiers are the least dart of the orbit; of 0, 0."
+unfoldable pub ident : List ℕ → List ℕ → ℕ → ℕ
+ident rows steps d = least (orbit rows steps d)
+
+abbrev pub cellOf : List ℕ → List ℕ → ℕ → Cell
+cellOf rows steps d = record { least = ident rows steps d; count = length (orbit rows steps d) }

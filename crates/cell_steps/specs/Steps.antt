@@ -1,0 +1,60 @@
+-- Steps from a dart to another, and the steps of each policy.
+--   step i j         the step by beta i of beta j, as one number
+--   image rows c d   where the step c leads from d; 0, the null dart, where it leads nowhere
+--   IsStep c         c is the number of a step
+--   vertex .. volumeLinear   the steps of the policies, in the order of the search
+--   stepsOf p        the steps of the policy p
+use Prim.Native.Nat.{ℕ, _+_, _*_, _/_, _%_, _<_}
+use mathlib.Core.List.{List, [], _∷_}
+use mathlib.Core.Bool.{cond}
+use lib.Dec.{ltb}
+use Rattle.map_betas.specs.Betas.{beta}
+use Rattle.cell_steps.specs.declared.policy.OrbitPolicy.{OrbitPolicy}
+use Rattle.cell_steps.specs.declared.policy.OrbitPolicy.the-variants.{Vertex, VertexLinear, Edge, Face, FaceLinear, Volume, VolumeLinear}
+
+-- "b1b2 (inner beta last)"; a step by one beta is that beta's own number, so that a Custom list of betas is its own list of steps
+abbrev pub step : ℕ → ℕ → ℕ
+step i j = 16 * i + j
+
+unfoldable pub image : List ℕ → ℕ → ℕ → ℕ
+image rows c d = cond (ltb c 16) (beta rows c d) (beta rows (c / 16) (beta rows (c % 16) d))
+
+unfoldable pub IsStep : ℕ → Type 0
+IsStep c = (c < 64) × (c % 16 < 4)
+
+-- "Vertex b1b2, b2b0, b1b3, b3b0, b2b3, b3b2 (inner beta last)"
+abbrev pub vertex : List ℕ
+vertex = step 1 2 ∷ step 2 0 ∷ step 1 3 ∷ step 3 0 ∷ step 2 3 ∷ step 3 2 ∷ []
+
+-- "VertexLinear b1b2, b1b3, b2b3"
+abbrev pub vertexLinear : List ℕ
+vertexLinear = step 1 2 ∷ step 1 3 ∷ step 2 3 ∷ []
+
+-- "Edge b2, b3"
+abbrev pub edge : List ℕ
+edge = 2 ∷ 3 ∷ []
+
+-- "Face b1, b0, b3"
+abbrev pub face : List ℕ
+face = 1 ∷ 0 ∷ 3 ∷ []
+
+-- "FaceLinear b1, b3"
+abbrev pub faceLinear : List ℕ
+faceLinear = 1 ∷ 3 ∷ []
+
+-- "Volume b1, b0, b2"
+abbrev pub volume : List ℕ
+volume = 1 ∷ 0 ∷ 2 ∷ []
+
+-- "VolumeLinear b1, b2"
+abbrev pub volumeLinear : List ℕ
+volumeLinear = 1 ∷ 2 ∷ []
+
+abbrev pub stepsOf : OrbitPolicy → List ℕ
+stepsOf Vertex = vertex
+stepsOf VertexLinear = vertexLinear
+stepsOf Edge = edge
+stepsOf Face = face
+stepsOf FaceLinear = faceLinear
+stepsOf Volume = volume
+stepsOf VolumeLinear = volumeLinear

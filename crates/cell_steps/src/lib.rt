@@ -1,0 +1,3 @@
+// Steps from dart to dart, orbits and cells: the policies, and all definitions and laws of the search.
+pub mod cells;
+pub mod policy;

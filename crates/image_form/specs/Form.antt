@@ -1,0 +1,99 @@
+-- The stored image, form 1: where each thing stands in its bytes, and which bytes are one.
+--   Form, form1                what a form fixes: its number, and the bytes that it keeps of a dart's images
+--   rowOffset, flagOffset, vertexOffset, totalBytes   where its blocks start, and where the last ends
+--   headerWord bytes k         word k of the header
+--   dartsOf, verticesOf        n and v: words 2 and 5
+--   rowsOf bytes n             the images of n darts, as rows
+--   flagAt bytes n d           the flag of dart d
+--   recordAt n k               where vertex record k starts
+--   recordDart, recordCoordinate   the dart of the record at a place, and its coordinate 0, 1 or 2
+--   Header, Flags, Sound, Vertices, IsImage   the rules as laws; the crate `image` has that its reader accepts exactly where they hold
+use Prim.Native.Nat.{ℕ, _+_, _*_, _<_, _≤_}
+use mathlib.Core.Path.{_≡_}
+use mathlib.Core.List.{List}
+use mathlib.Core.Bool.{true}
+use lib.ListN.{length, getD}
+use lib.Ieee.{Float}
+use lib.Ieee.Scale.{finite}
+use Rattle.image_words.specs.Words.{word32, coordinateAt, wordsAt}
+
+pub record Form : Type 0 where
+  pub number : ℕ
+  pub rowBytes : ℕ
+
+-- "form 1": four images of four bytes
+abbrev pub form1 : Form
+form1 = record { number = 1; rowBytes = 16 }
+
+-- "row offset 28, flag offset 28+16n, .. vertex offset 28+17n", "Total is 28+17n+28v."
+abbrev pub rowOffset : ℕ
+rowOffset = 28
+
+abbrev pub flagOffset : Form → ℕ → ℕ
+flagOffset f n = rowOffset + f .rowBytes * n
+
+abbrev pub vertexOffset : Form → ℕ → ℕ
+vertexOffset f n = flagOffset f n + n
+
+abbrev pub totalBytes : Form → ℕ → ℕ → ℕ
+totalBytes f n v = vertexOffset f n + 28 * v
+
+-- "Seven u32 header words: form 1, total bytes, n, row offset .., flag offset .., vertex count v, vertex offset .."
+abbrev pub headerWord : List ℕ → ℕ → ℕ
+headerWord bytes k = word32 bytes (4 * k)
+
+abbrev pub dartsOf : List ℕ → ℕ
+dartsOf bytes = headerWord bytes 2
+
+abbrev pub verticesOf : List ℕ → ℕ
+verticesOf bytes = headerWord bytes 5
+
+-- "Then rows, n flag bytes .., v records of 28 bytes: dart u32, three f64."
+abbrev pub rowsOf : List ℕ → ℕ → List ℕ
+rowsOf bytes n = wordsAt bytes rowOffset (4 * n)
+
+abbrev pub flagAt : List ℕ → ℕ → ℕ → ℕ
+flagAt bytes n d = getD bytes (flagOffset form1 n + d) 0
+
+abbrev pub recordAt : ℕ → ℕ → ℕ
+recordAt n k = vertexOffset form1 n + 28 * k
+
+abbrev pub recordDart : List ℕ → ℕ → ℕ
+recordDart bytes at = word32 bytes at
+
+abbrev pub recordCoordinate : List ℕ → ℕ → ℕ → Float
+recordCoordinate bytes at j = coordinateAt bytes (at + (4 + 8 * j))
+
+-- the header of an image of at most `most` darts
+pub record Header (f : Form) (most : ℕ) (bytes : List ℕ) : Type 0 where
+  pub whole : 28 ≤ length bytes
+  pub form : headerWord bytes 0 ≡ f .number
+  pub total : headerWord bytes 1 ≡ length bytes
+  pub some : 1 ≤ dartsOf bytes
+  pub few : dartsOf bytes ≤ most
+  pub rowsStart : headerWord bytes 3 ≡ rowOffset
+  pub flagsStart : headerWord bytes 4 ≡ flagOffset f (dartsOf bytes)
+  pub vertexCount : verticesOf bytes < dartsOf bytes
+  pub fits : length bytes ≡ totalBytes f (dartsOf bytes) (verticesOf bytes)
+  pub verticesStart : headerWord bytes 6 ≡ vertexOffset f (dartsOf bytes)
+
+-- "n flag bytes (0 or 1, dart 0's is 0)"
+pub record Flags (bytes : List ℕ) (n : ℕ) : Type 0 where
+  pub null : flagAt bytes n 0 ≡ 0
+  pub each : (d : ℕ) → d < n → flagAt bytes n d ≤ 1
+
+-- a record of a dart below n; "NaN and infinities are refused."
+pub record Sound (bytes : List ℕ) (n at : ℕ) : Type 0 where
+  pub below : recordDart bytes at < n
+  pub finite : (j : ℕ) → j < 3 → finite (recordCoordinate bytes at j) ≡ true
+
+-- "Darts ascend strictly, from 1 to n-1."
+pub record Vertices (bytes : List ℕ) (n v : ℕ) : Type 0 where
+  pub real : (k : ℕ) → k < v → 1 ≤ recordDart bytes (recordAt n k)
+  pub ascend : (j k : ℕ) → j < k → k < v → recordDart bytes (recordAt n j) < recordDart bytes (recordAt n k)
+  pub sound : (k : ℕ) → k < v → Sound bytes n (recordAt n k)
+
+pub record IsImage (most : ℕ) (bytes : List ℕ) : Type 0 where
+  pub header : Header form1 most bytes
+  pub flags : Flags bytes (dartsOf bytes)
+  pub vertices : Vertices bytes (dartsOf bytes) (verticesOf bytes)

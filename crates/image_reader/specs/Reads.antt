@@ -1,0 +1,60 @@
+-- What a reading answers and leaves.
+--   Read          the answer and the four loans
+--   wrote         what a reading that is done leaves: the image's content, and the rest of each loan as it was
+--   readWithin    the reading of an image of at most `most` darts
+--   readImage     the reading of an image of any number of darts that a map may have
+--   Accepted      what holds of an image and its loans exactly where it is read (`proofs/Accepted.antt`)
+use Prim.Native.Nat.{ℕ, _*_, _≤_}
+use mathlib.Core.List.{List, _++_}
+use mathlib.Core.Bool.{cond}
+use lib.ListN.{length, drop}
+use lib.Ieee.{Float}
+use Rattle.map_betas.specs.declared.error.Answer.{Answer}
+use Rattle.map_betas.specs.declared.error.Answer.the-variants.{Done}
+use Rattle.map_betas.specs.Answers.{isDone}
+use Rattle.map_betas.specs.Maps.{WellFormed}
+use Rattle.image_form.specs.Form.{dartsOf, verticesOf, rowsOf, IsImage}
+use Rattle.map_betas.specs.Guards.{readerLoans}
+use Rattle.image_reader.specs.Tests.{imageTest}
+use Rattle.image_reader.specs.Content.{flagsOf, slotsOf}
+
+pub record Read : Type 0 where
+  pub answer : Answer
+  pub flags : List ℕ
+  pub vertices : List ℕ
+  pub coordinates : List Float
+  pub rows : List ℕ
+
+abbrev pub left : Answer → List ℕ → List ℕ → List Float → List ℕ → Read
+left a flags vertices coordinates rows =
+    record { answer = a; flags = flags; vertices = vertices; coordinates = coordinates; rows = rows }
+
+-- "Success writes n darts' rows, flags, vertex marks .. and coordinates .. and no more"
+unfoldable pub wrote : List ℕ → ℕ → ℕ → List ℕ → List ℕ → List Float → List ℕ → Read
+wrote bytes n v flags vertices coordinates rows =
+    left (Done 0 n) (flagsOf bytes n ++ drop n flags) (slotsOf bytes n v .marks ++ drop n vertices)
+    (slotsOf bytes n v .coordinates ++ drop (3 * n) coordinates)
+    (rowsOf bytes n ++ drop (4 * n) rows)
+
+abbrev pub testOf : ℕ → List ℕ → List ℕ → List ℕ → List Float → List ℕ → Answer
+testOf most bytes flags vertices coordinates rows =
+    imageTest most bytes (readerLoans (length flags) (length vertices) (length coordinates)) (length rows)
+
+-- "a refusal writes nothing"
+unfoldable pub readWithin : ℕ → List ℕ → List ℕ → List ℕ → List Float → List ℕ → Read
+readWithin most bytes flags vertices coordinates rows =
+    let test = testOf most bytes flags vertices coordinates rows in
+    cond (isDone test) (wrote bytes (dartsOf bytes) (verticesOf bytes) flags vertices coordinates rows)
+    (left test flags vertices coordinates rows)
+
+-- "1 <= n <= 1,048,576"
+abbrev pub readImage : List ℕ → List ℕ → List ℕ → List Float → List ℕ → Read
+readImage = readWithin 1048576
+
+pub record Accepted (most : ℕ) (bytes flags vertices : List ℕ) (coordinates : List Float) (rows : List ℕ) : Type 0 where
+  pub image : IsImage most bytes
+  pub formed : WellFormed (rowsOf bytes (dartsOf bytes))
+  pub flagRoom : dartsOf bytes ≤ length flags
+  pub markRoom : dartsOf bytes ≤ length vertices
+  pub coordinateRoom : 3 * dartsOf bytes ≤ length coordinates
+  pub rowRoom : 4 * dartsOf bytes ≤ length rows

@@ -1,0 +1,29 @@
+-- What refuses an image with its loans: all tests, in order.
+--   loansTest n loans rows   ShortLoan
+--   blocksTest bytes n v   flags, vertices, rows
+--   imageTest              all of them
+use Prim.Native.Nat.{ℕ, _*_}
+use mathlib.Core.List.{List}
+use mathlib.Core.Bool.{cond}
+use lib.Dec.{ltb}
+use Rattle.map_betas.specs.declared.error.Answer.{Answer}
+use Rattle.map_betas.specs.declared.error.Answer.the-variants.{Refused}
+use Rattle.map_betas.specs.declared.error.Refusal.the-variants.{ShortLoan}
+use Rattle.map_betas.specs.declared.loans.Loans.{Loans}
+use Rattle.map_betas.specs.Answers.{pass, andThen}
+use Rattle.map_betas.specs.Guards.{loanTest}
+use Rattle.map_betas.specs.Maps.{mapTest}
+use Rattle.image_form.specs.Form.{dartsOf, verticesOf, rowsOf}
+use Rattle.image_form.specs.Tests.{headerTest, flagsTest, verticesTest}
+
+unfoldable pub loansTest : ℕ → Loans → ℕ → Answer
+loansTest n loans rows = andThen (loanTest n loans) (cond (ltb rows (4 * n)) (Refused (ShortLoan 7)) pass)
+
+-- "Then ShortLoan, BadImage 7 for flags, 8 for vertices, NotAMap."
+unfoldable pub blocksTest : List ℕ → ℕ → ℕ → Answer
+blocksTest bytes n v = andThen (flagsTest bytes n) (andThen (verticesTest bytes n v) (mapTest (rowsOf bytes n)))
+
+unfoldable pub imageTest : ℕ → List ℕ → Loans → ℕ → Answer
+imageTest most bytes loans rows =
+    andThen (headerTest most bytes)
+    (andThen (loansTest (dartsOf bytes) loans rows) (blocksTest bytes (dartsOf bytes) (verticesOf bytes)))

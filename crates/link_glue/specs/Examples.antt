@@ -1,0 +1,86 @@
+-- The proved examples ("P") of document 01, as one table; `proofs/Agree.antt` has the one claim over it.
+--   Line A           a row of the table: what the call leaves, an A, and what the document says; here A is `Out`, an answer and rows
+--   one, loops, ..   maps: "Beta 1 chains; 'loop' means closed; all else null."
+--   lines            the table: the lines of links, then the smallest inputs that tell the readings of the walk apart
+--   calls, sayings   its two columns
+-- A crate above this one joins its own lines with these by `++`, at an A that has its further loans too.
+use Prim.Native.Nat.{ℕ}
+use mathlib.Core.List.{List, [], _∷_, _++_}
+use Rattle.map_betas.specs.declared.error.Answer.the-variants.{Refused}
+use Rattle.map_betas.specs.declared.error.Refusal.the-variants.{NonFreeBase, NonFreeImage, AsymmetricalFaces}
+use Rattle.map_betas.specs.Answers.{Out, out, pass}
+use Rattle.link_walk.specs.Calls.{threeLink, threeUnlink}
+
+-- a dart's images by beta 0, 1, 2 and 3
+abbrev pub row : ℕ → ℕ → ℕ → ℕ → List ℕ
+row a b c d = a ∷ b ∷ c ∷ d ∷ []
+
+abbrev pub free : List ℕ
+free = row 0 0 0 0
+
+-- dart 1
+abbrev pub one : List ℕ
+one = free ++ free
+
+-- loops 1 2 3; 4 5 6 7
+abbrev pub loops : List ℕ
+loops = free ++ row 3 2 0 0 ++ row 1 3 0 0 ++ row 2 1 0 0 ++ row 7 5 0 0 ++ row 4 6 0 0 ++ row 5 7 0 0 ++ row 6 4 0 0
+
+-- pairs 1-4, 2-7, 3-6; 5 free
+abbrev pub loops-linked : List ℕ
+loops-linked = free ++ row 3 2 0 4 ++ row 1 3 0 7 ++ row 2 1 0 6 ++ row 7 5 0 1 ++ row 4 6 0 0 ++ row 5 7 0 3 ++ row 6 4 0 2
+
+-- loop 1 2 3 4
+abbrev pub square : List ℕ
+square = free ++ row 4 2 0 0 ++ row 1 3 0 0 ++ row 2 4 0 0 ++ row 3 1 0 0
+
+-- open 1 2; 3 4 5
+abbrev pub opens : List ℕ
+opens = free ++ row 0 2 0 0 ++ row 1 0 0 0 ++ row 0 4 0 0 ++ row 3 5 0 0 ++ row 4 0 0 0
+
+-- pairs 1-4, 2-3; 5 free
+abbrev pub opens-linked : List ℕ
+opens-linked = free ++ row 0 2 0 4 ++ row 1 0 0 3 ++ row 0 4 0 2 ++ row 3 5 0 1 ++ row 4 0 0 0
+
+-- open 1 2
+abbrev pub pair : List ℕ
+pair = free ++ row 0 2 0 0 ++ row 1 0 0 0
+
+-- open 1 2, 3-linked to each other
+abbrev pub pair-linked : List ℕ
+pair-linked = free ++ row 0 2 0 2 ++ row 1 0 0 1
+
+-- open 4 1; darts 2 and 3
+abbrev pub late : List ℕ
+late = free ++ row 4 0 0 0 ++ free ++ free ++ row 0 1 0 0
+
+pub record Line (A : Type 0) : Type 0 where
+  pub call : A
+  pub says : A
+
+abbrev pub line : {A : Type 0} → A → A → Line A
+line c s = record { call = c; says = s }
+
+unfoldable pub lines : List (Line Out)
+lines =
+    line (threeLink one 1 1) (out (Refused (NonFreeImage 3 1 1)) one)
+    ∷ line (threeLink loops 1 4) (out pass loops-linked)
+    ∷ line (threeUnlink loops-linked 4) (out (Refused (AsymmetricalFaces 4 1)) loops-linked)
+    ∷ line (threeLink loops 4 1) (out (Refused (NonFreeImage 3 7 1)) loops)
+    ∷ line (threeLink square 1 2) (out (Refused (NonFreeBase 3 2 1)) square)
+    ∷ line (threeLink opens 1 4) (out pass opens-linked)
+    ∷ line (threeLink opens 5 1) (out (Refused (AsymmetricalFaces 5 1)) opens)
+    -- walks read the rows as written so far
+    ∷ line (threeLink pair 1 2) (out (Refused (NonFreeBase 3 2 1)) pair)
+    ∷ line (threeUnlink pair-linked 1) (out (Refused (AsymmetricalFaces 1 2)) pair-linked)
+    -- only a closed chain is excused the step to ld
+    ∷ line (threeLink late 1 2) (out (Refused (AsymmetricalFaces 1 2)) late)
+    ∷ []
+
+unfoldable pub calls : {A : Type 0} → List (Line A) → List A
+calls [] = []
+calls (l ∷ ls) = l .call ∷ calls ls
+
+unfoldable pub sayings : {A : Type 0} → List (Line A) → List A
+sayings [] = []
+sayings (l ∷ ls) = l .says ∷ sayings ls

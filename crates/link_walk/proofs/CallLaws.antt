@@ -1,0 +1,57 @@
+-- The tests of a link or an unlink, which has no loans and refuses the null dart.
+--   tested   what the code tested is what the definition tests
+--   passed   what holds once they have passed: a map, and real darts of it
+--   admits   they pass on a map and real darts of it
+--   through  a call that is done is its core, and its tests passed
+--   inside   a call on a map and real darts of it is its core
+-- Assumes nothing.
+use Prim.Native.Nat.{ℕ}
+use native.Mathlib.Omega.{arith}
+use mathlib.Core.Path.{_≡_, refl, sym, ap, _∙_}
+use mathlib.Core.List.{List}
+use mathlib.Core.Bool.{Bool, true, false, cond, true≢false}
+use Rattle.map_betas.specs.declared.error.Answer.{Answer}
+use Rattle.map_betas.specs.declared.loans.Loans.{Loans}
+use Rattle.map_betas.specs.Betas.{darts}
+use Rattle.map_betas.specs.Answers.{Out, out, pass, isDone, andThen, guarded}
+use Rattle.map_betas.specs.Maps.{sizeTest, mapTest}
+use Rattle.map_betas.specs.Guards.{noLoans, loanTest, dartTest, guardOf}
+use Rattle.link_walk.specs.Calls.{Real}
+use Rattle.map_betas.proofs.AnswerLaws.{first-done, then-done, goes-on, call-done}
+use Rattle.map_betas.proofs.Formed.{formed-iff}
+use Rattle.map_betas.proofs.GuardLaws.{ready, loan-none, dart-good, dart-both}
+
+pub tested : (rows : List ℕ) (x : Loans) (a b : ℕ) (g : Answer) → x ≡ noLoans → g ≡ guardOf rows x 1 a b → g ≡ guardOf rows noLoans 1 a b
+tested rows x a b g p e = e ∙ ap (λ (y : Loans). guardOf rows y 1 a b) p
+
+pub passed : (rows : List ℕ) (a b : ℕ) (g : Answer) → g ≡ guardOf rows noLoans 1 a b → isDone g ≡ true → Real rows a b
+passed rows a b g e t =
+    let h = ready rows noLoans 1 a b (ap isDone (sym e) ∙ t) in
+    let l = h .left in
+    let r = h .right in
+    (h .formed, l .allowed, l .below, r .allowed, r .below)
+
+pub admits : (rows : List ℕ) (a b : ℕ) → Real rows a b → pass ≡ guardOf rows noLoans 1 a b
+unfolding guardOf
+admits rows a b h =
+    let n : ℕ = darts rows in
+    let few = h .0 .sized .few in
+    let m : isDone (andThen (sizeTest rows) (mapTest rows)) ≡ true = ap isDone (formed-iff rows .1 (h .0)) in
+    let s = first-done (sizeTest rows) (mapTest rows) m in
+    let t = then-done (sizeTest rows) (mapTest rows) m in
+    let l : pass ≡ loanTest n noLoans =
+    loan-none n noLoans (omega arith) (omega arith) (omega arith) (omega arith) (omega arith) (omega arith) in
+    let d : pass ≡ dartTest n 1 a b = dart-both n 1 a b (dart-good n 1 a (h .1) (h .2)) (dart-good n 1 b (h .3) (h .4)) in
+    d ∙ goes-on (mapTest rows) (mapTest rows) _ refl t ∙ goes-on pass (loanTest n noLoans) _ l refl ∙ goes-on (sizeTest rows) (sizeTest rows) _ refl s
+
+module _ (rows : List ℕ) (a b : ℕ) (o : Out) where
+  pub through : isDone (guarded rows (guardOf rows noLoans 1 a b) o .answer) ≡ true → Real rows a b × (guarded rows (guardOf rows noLoans 1 a b) o ≡ o)
+  through = go (guardOf rows noLoans 1 a b) refl (isDone (guardOf rows noLoans 1 a b)) refl
+    where
+      go : (g : Answer) → g ≡ guardOf rows noLoans 1 a b → (c : Bool) → isDone g ≡ c → isDone (cond c o (out g rows) .answer) ≡ true →
+          Real rows a b × (cond c o (out g rows) ≡ o)
+      go g e true t d = (passed rows a b g e t, refl)
+      go g e false t d = absurd (true≢false (sym d ∙ t))
+
+  pub inside : Real rows a b → guarded rows (guardOf rows noLoans 1 a b) o ≡ o
+  inside h = sym (call-done rows pass (guardOf rows noLoans 1 a b) (admits rows a b h) o refl)

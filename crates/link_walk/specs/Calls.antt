@@ -1,0 +1,41 @@
+-- The six calls, for any rows and any darts: "Order: 1, 2, 3, 4, 5, then 6 to 10 as the walk meets them". A refusal leaves the rows as they were.
+--   bareLink rows i ld rd, bareUnlink rows i ld   the core behind its tests, once over the beta
+--   oneLink, oneUnlink, twoLink, twoUnlink        "1- and 2-links and unlinks are the bare cores."
+--   threeLink, threeUnlink                        both faces, pair by pair
+--   Real rows a b                                 what their tests ask: rows are a map, a and b real darts of it (`proofs/CallLaws.antt`)
+use Prim.Native.Nat.{ℕ, _<_}
+use mathlib.Core.List.{List}
+use Rattle.map_betas.specs.Betas.{darts}
+use Rattle.map_betas.specs.Answers.{Out, guarded}
+use Rattle.map_betas.specs.Maps.{WellFormed}
+use Rattle.map_betas.specs.Guards.{guardOf, noLoans}
+use Rattle.map_betas.specs.Cores.{linkCore, unlinkCore}
+use Rattle.link_walk.specs.Three.{threeLinkOn, threeUnlinkOn}
+
+unfoldable pub bareLink : List ℕ → ℕ → ℕ → ℕ → Out
+bareLink rows i ld rd = guarded rows (guardOf rows noLoans 1 ld rd) (linkCore rows i ld rd)
+
+unfoldable pub bareUnlink : List ℕ → ℕ → ℕ → Out
+bareUnlink rows i ld = guarded rows (guardOf rows noLoans 1 ld ld) (unlinkCore rows i ld)
+
+abbrev pub oneLink : List ℕ → ℕ → ℕ → Out
+oneLink rows ld rd = bareLink rows 1 ld rd
+
+abbrev pub oneUnlink : List ℕ → ℕ → Out
+oneUnlink rows ld = bareUnlink rows 1 ld
+
+abbrev pub twoLink : List ℕ → ℕ → ℕ → Out
+twoLink rows ld rd = bareLink rows 2 ld rd
+
+abbrev pub twoUnlink : List ℕ → ℕ → Out
+twoUnlink rows ld = bareUnlink rows 2 ld
+
+unfoldable pub threeLink : List ℕ → ℕ → ℕ → Out
+threeLink rows ld rd = guarded rows (guardOf rows noLoans 1 ld rd) (threeLinkOn rows ld rd)
+
+unfoldable pub threeUnlink : List ℕ → ℕ → Out
+threeUnlink rows ld = guarded rows (guardOf rows noLoans 1 ld ld) (threeUnlinkOn rows ld)
+
+-- BadDart: "dart >= n; also 0 for links, unlinks, sews, unsews"
+abbrev pub Real : List ℕ → ℕ → ℕ → Type 0
+Real rows a b = WellFormed rows × (0 < a) × (a < darts rows) × (0 < b) × (b < darts rows)

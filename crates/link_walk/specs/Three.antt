@@ -1,0 +1,49 @@
+-- The 3-link and the 3-unlink of real darts of a map, as the walk goes. `entry` is the rows of the call, left as they were after a refusal;
+-- d is the dart to answer; `un` tells the unlink from the link.
+--   legOn, legBack           the two legs
+--   lastLeg, afterLeg, afterCore   what follows the second leg, the first leg, the core at ld and rd
+--   threeLinkOn entry ld rd  the 3-link of ld and rd
+--   threeUnlinkOn entry ld   the 3-unlink of ld and its image, which is answered
+use Prim.Native.Nat.{ℕ, suc}
+use mathlib.Core.List.{List}
+use mathlib.Core.Bool.{Bool, true, false, cond}
+use lib.Dec.{eqb}
+use lib.ListN.{length}
+use Rattle.map_betas.specs.declared.error.Answer.the-variants.{Done, Refused}
+use Rattle.map_betas.specs.declared.error.Refusal.the-variants.{AsymmetricalFaces}
+use Rattle.map_betas.specs.Betas.{beta}
+use Rattle.map_betas.specs.Answers.{Out, out, isDone}
+use Rattle.map_betas.specs.Cores.{linkCore, unlinkCore}
+use Rattle.link_walk.specs.Walk.{stepOf, LegOut, walk}
+
+-- "Then l forward by beta 1, r by beta 0. Until l is ld or null"
+abbrev pub legOn : Bool → List ℕ → ℕ → ℕ → LegOut
+legOn un rows ld rd = walk (stepOf un ld rd) (suc (length rows)) rows 1 0 ld (beta rows 1 ld) (beta rows 0 rd) 0
+
+-- "then from ld by beta 0 and rd by beta 1 until l is null"
+abbrev pub legBack : Bool → List ℕ → ℕ → ℕ → LegOut
+legBack un rows ld rd = walk (stepOf un ld rd) (suc (length rows)) rows 0 1 0 (beta rows 0 ld) (beta rows 1 rd) 0
+
+-- "When l is null in this second leg r isn't looked at"
+abbrev pub lastLeg : ℕ → List ℕ → LegOut → Out
+lastLeg d entry w = cond (isDone (w .leg .answer)) (out (Done d 0) (w .rows)) (out (w .leg .answer) entry)
+
+-- "If l is null: r not null gives 9; then .. this second leg .. nor is r [looked at] when a closed l is back at ld."
+abbrev pub afterLeg : Bool → ℕ → List ℕ → ℕ → ℕ → LegOut → Out
+afterLeg un d entry ld rd w =
+    cond (isDone (w .leg .answer))
+    (cond (eqb (w .leg .l) 0)
+    (cond (eqb (w .leg .r) 0) (lastLeg d entry (legBack un (w .rows) ld rd)) (out (Refused (AsymmetricalFaces ld rd)) entry))
+    (out (Done d 0) (w .rows)))
+    (out (w .leg .answer) entry)
+
+abbrev pub afterCore : Bool → ℕ → List ℕ → ℕ → ℕ → Out → Out
+afterCore un d entry ld rd o = cond (isDone (o .answer)) (afterLeg un d entry ld rd (legOn un (o .rows) ld rd)) (out (o .answer) entry)
+
+-- "3-link: core (3, ld, rd). Then .."
+unfoldable pub threeLinkOn : List ℕ → ℕ → ℕ → Out
+threeLinkOn entry ld rd = afterCore false 0 entry ld rd (linkCore entry 3 ld rd)
+
+-- "3-unlink walks likewise .. It returns rd"
+unfoldable pub threeUnlinkOn : List ℕ → ℕ → Out
+threeUnlinkOn entry ld = afterCore true (beta entry 3 ld) entry ld (beta entry 3 ld) (unlinkCore entry 3 ld)

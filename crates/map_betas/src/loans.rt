@@ -1,0 +1,100 @@
+// The loans of each call, by their lengths: a literal for each set of loans that a call has.
+ghost use mathlib.Core.Path.{_≡_};
+ghost use Rattle.map_betas.specs.Guards.{noLoans, scratchOf, orbitLoans, listLoans, vertexLoans, readerLoans};
+
+// The lengths of the loans that a call has; a loan that it has not counts as `ENOUGH`.
+pub struct Loans {
+    pub marks: usize,
+    pub queue: usize,
+    pub output: usize,
+    pub flags: usize,
+    pub vertices: usize,
+    pub coordinates: usize,
+}
+
+// As long as any map could ask: three coordinates for each of 1,048,576 darts.
+pub const ENOUGH: usize = 3145728;
+
+// The loans of a call that has none.
+pub fn no_loans() -> Loans
+    ensures { λ r. ⌜ r ≡ noLoans ⌝ }
+{
+    Loans {
+        marks: ENOUGH,
+        queue: ENOUGH,
+        output: ENOUGH,
+        flags: ENOUGH,
+        vertices: ENOUGH,
+        coordinates: ENOUGH,
+    }
+}
+
+// The loans of a call that has marks and a queue.
+pub fn scratch(marks: usize, queue: usize) -> Loans
+    ensures { λ r. ⌜ r ≡ scratchOf marks queue ⌝ }
+{
+    Loans {
+        marks,
+        queue,
+        output: ENOUGH,
+        flags: ENOUGH,
+        vertices: ENOUGH,
+        coordinates: ENOUGH,
+    }
+}
+
+// The loans of an orbit call.
+pub fn orbit_loans(marks: usize, output: usize) -> Loans
+    ensures { λ r. ⌜ r ≡ orbitLoans marks output ⌝ }
+{
+    Loans {
+        marks,
+        queue: ENOUGH,
+        output,
+        flags: ENOUGH,
+        vertices: ENOUGH,
+        coordinates: ENOUGH,
+    }
+}
+
+// The loans of a list call.
+pub fn list_loans(marks: usize, queue: usize, output: usize, flags: usize) -> Loans
+    ensures { λ r. ⌜ r ≡ listLoans marks queue output flags ⌝ }
+{
+    Loans {
+        marks,
+        queue,
+        output,
+        flags,
+        vertices: ENOUGH,
+        coordinates: ENOUGH,
+    }
+}
+
+// The loans of a 2-sew.
+pub fn vertex_loans(marks: usize, queue: usize, vertices: usize, coordinates: usize) -> Loans
+    ensures { λ r. ⌜ r ≡ vertexLoans marks queue vertices coordinates ⌝ }
+{
+    Loans {
+        marks,
+        queue,
+        output: ENOUGH,
+        flags: ENOUGH,
+        vertices,
+        coordinates,
+    }
+}
+
+// The loans that the reader has of those that other calls have too.
+pub fn reader_loans(flags: usize, vertices: usize, coordinates: usize) -> Loans
+    ensures { λ r. ⌜ r ≡ readerLoans flags vertices coordinates ⌝ }
+{
+    Loans {
+        marks: ENOUGH,
+        queue: ENOUGH,
+        output: ENOUGH,
+        flags,
+        vertices,
+        coordinates,
+    }
+}

@@ -1,0 +1,2 @@
+// Reads and free tests.
+pub mod basic_ops;

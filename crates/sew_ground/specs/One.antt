@@ -1,0 +1,83 @@
+-- The 1-sew and the 1-unsew of real darts of a well-formed map.
+--   bothThree rows ld rd   whether ld and rd both have beta 3
+--   oneFar rows d          m: the larger of beta 3 and beta 2 of d
+--   oneEntries k rows ld rd   the vertex merge or split
+--   oneLinks, oneUnlinks   the links that a 1-sew makes; the unlinks of a 1-unsew
+--   oneSewOn, oneUnsewOn   the whole
+--   takenBack, relinked    the rows with those links, or unlinks, undone in the reverse order
+use Prim.Native.Nat.{ℕ}
+use mathlib.Core.Bool.{Bool, cond, not, _&&_, _||_}
+use mathlib.Core.List.{List}
+use lib.Dec.{eqb}
+use Rattle.map_betas.specs.declared.error.Answer.the-variants.{Refused}
+use Rattle.map_betas.specs.declared.error.Refusal.the-variants.{AsymmetricalFaces}
+use Rattle.map_betas.specs.Betas.{beta}
+use Rattle.map_betas.specs.Answers.{Out, out, isDone}
+use Rattle.map_betas.specs.Cores.{linkCore, unlinkCore}
+use Rattle.sew_plan.specs.declared.Class.the-variants.{Vertex}
+use Rattle.sew_plan.specs.declared.Kind.{Kind}
+use Rattle.sew_plan.specs.declared.Kind.the-variants.{Merge, Split}
+use Rattle.sew_plan.specs.declared.Entry.{Entry}
+use Rattle.sew_ground.specs.Ids.{vertexId}
+use Rattle.sew_ground.specs.Entries.{entriesIf, larger}
+use Rattle.sew_ground.specs.Sewn.{Work, work, dartOf}
+
+unfoldable pub bothThree : List ℕ → ℕ → ℕ → Bool
+bothThree rows ld rd = not (eqb (beta rows 3 ld) 0) && not (eqb (beta rows 3 rd) 0)
+
+-- "m = M(beta 3, beta 2 of ld)"
+abbrev pub oneFar : List ℕ → ℕ → ℕ
+oneFar rows d = larger (beta rows 3 d) (beta rows 2 d)
+
+-- "vl = vertex of m, vr = vertex of rd"; "If m is not 0 and vl, vr differ: vertex merge (least, vl, vr)."
+unfoldable pub oneEntries : Kind → List ℕ → ℕ → ℕ → List Entry
+oneEntries kind rows ld rd = entriesIf (not (eqb (oneFar rows ld) 0)) Vertex kind (vertexId rows (oneFar rows ld)) (vertexId rows rd)
+
+-- "Link (1, ld, rd); if ld and rd both have beta 3, also link (1, beta 3 of rd, beta 3 of ld)."
+abbrev pub orBack : List ℕ → Out → Out
+orBack rows o = cond (isDone (o .answer)) o (out (o .answer) rows)
+
+abbrev pub afterLink : List ℕ → ℕ → ℕ → Out → Out
+afterLink rows ld rd o =
+    cond (isDone (o .answer)) (cond (bothThree rows ld rd) (orBack rows (linkCore (o .rows) 1 (beta rows 3 rd) (beta rows 3 ld))) o) o
+
+unfoldable pub oneLinks : List ℕ → ℕ → ℕ → Out
+oneLinks rows ld rd = afterLink rows ld rd (linkCore rows 1 ld rd)
+
+unfoldable pub oneSewOn : List ℕ → ℕ → ℕ → Work
+oneSewOn rows ld rd = work (oneLinks rows ld rd .answer) (oneLinks rows ld rd .rows) (oneEntries Merge rows ld rd)
+
+-- the rows with the second link of a 1-sew unlinked, or linked, where both darts have beta 3
+unfoldable pub secondCut : List ℕ → ℕ → ℕ → List ℕ
+secondCut rows ld rd = cond (bothThree rows ld rd) (unlinkCore rows 1 (beta rows 3 rd) .rows) rows
+
+unfoldable pub secondPut : List ℕ → ℕ → ℕ → List ℕ
+secondPut rows ld rd = cond (bothThree rows ld rd) (linkCore rows 1 (beta rows 3 rd) (beta rows 3 ld) .rows) rows
+
+-- "if both have beta 3, beta 1 of beta 3 of rd must be beta 3 of ld"
+unfoldable pub agrees : List ℕ → ℕ → ℕ → Bool
+agrees rows ld rd = not (bothThree rows ld rd) || eqb (beta rows 1 (beta rows 3 rd)) (beta rows 3 ld)
+
+-- "unlink; if both have beta 3, beta 1 of beta 3 of rd must be beta 3 of ld, else 9; unlink that too."
+-- That second unlink is of a dart that has beta 1, so that it never refuses.
+abbrev pub afterUnlink : List ℕ → ℕ → ℕ → Out → Out
+afterUnlink rows ld rd o =
+    cond (isDone (o .answer))
+    (cond (agrees (o .rows) ld rd) (out (o .answer) (secondCut (o .rows) ld rd)) (out (Refused (AsymmetricalFaces ld rd)) rows))
+    o
+
+unfoldable pub oneUnlinks : List ℕ → ℕ → Out
+oneUnlinks rows ld = afterUnlink rows ld (beta rows 1 ld) (unlinkCore rows 1 ld)
+
+-- "Then as above with new identifiers: vertex split (vl, vr, least)."
+unfoldable pub oneUnsewOn : List ℕ → ℕ → Work
+oneUnsewOn rows ld =
+    work (oneUnlinks rows ld .answer) (oneUnlinks rows ld .rows)
+    (oneEntries Split (oneUnlinks rows ld .rows) ld (dartOf (oneUnlinks rows ld .answer)))
+
+-- how the code undoes its links, and its unlinks, where the plan has no room: in the reverse order
+abbrev pub takenBack : List ℕ → ℕ → ℕ → List ℕ
+takenBack rows ld rd = unlinkCore (secondCut rows ld rd) 1 ld .rows
+
+abbrev pub relinked : List ℕ → ℕ → ℕ → List ℕ
+relinked rows ld rd = linkCore (secondPut rows ld rd) 1 ld rd .rows

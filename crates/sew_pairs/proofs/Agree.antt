@@ -1,0 +1,23 @@
+-- The proved examples of document 01 for the 3-unsew: each call of the table leaves what the document says (`agree`), computed from the definitions.
+-- Assumes nothing.
+use mathlib.Core.Path.{_≡_, refl}
+use Rattle.map_betas.specs.Maps.{badSize, breaks, breachAt, firstBreach, mapTest}
+use Rattle.map_betas.specs.Guards.{loanTest, noDart, guardOf}
+use Rattle.map_betas.specs.Cores.{unlinkCore}
+use Rattle.link_walk.specs.Walk.{stepOf, walk}
+use Rattle.link_walk.specs.Three.{threeUnlinkOn}
+use Rattle.link_glue.specs.Examples.{calls, sayings}
+use Rattle.cell_steps.specs.Steps.{image}
+use Rattle.cell_steps.specs.Search.{mem, add, visit, search, orbit}
+use Rattle.cell_steps.specs.Idents.{leastFrom, least, ident}
+use Rattle.sew_plan.specs.Plan.{splitOf, planOf, putPlan}
+use Rattle.sew_ground.specs.Entries.{entriesIf}
+use Rattle.sew_ground.specs.Sewn.{settled, sewn}
+use Rattle.sew_pairs.specs.Pairs.{threeFar, pairEntries, legOver, entriesFrom, tallied, tallyFrom}
+use Rattle.sew_pairs.specs.Three.{startTally, firstTally, backTally, wholeTally, firstEntries, backEntries, splitsOf, threeEntries, threeUnsewOn}
+use Rattle.sew_pairs.specs.Calls.{threeUnsew}
+use Rattle.sew_pairs.specs.Examples.{lines}
+
+pub agree : calls lines ≡ sayings lines
+unfolding lines calls sayings threeUnsew guardOf loanTest noDart mapTest firstBreach breachAt breaks badSize threeUnlinkOn unlinkCore stepOf walk image mem add visit search orbit leastFrom least ident splitOf planOf putPlan entriesIf settled sewn threeFar pairEntries legOver entriesFrom tallied tallyFrom startTally firstTally backTally wholeTally firstEntries backEntries splitsOf threeEntries threeUnsewOn
+agree = refl

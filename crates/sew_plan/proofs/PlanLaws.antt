@@ -1,0 +1,111 @@
+-- Laws of plans, for callers that write entries one behind another. Assumes nothing.
+--
+--   entry-stored    the four stores of one entry give `written`
+--   length-words    an entry takes `width` numbers
+--   length-planOf   a list of entries takes `width` numbers for each
+--   planOf-append   the numbers of two lists of entries, one behind another
+--   put-none        a plan into which nothing was written is itself
+--   write-next      writing the next entry behind a list of entries is writing the longer list
+--   write-after     the same as a caller meets it: the plan before and the entry are known by equations
+--   put-behind      a second list of entries written into the rest of the plan
+--   put-front       the written part of a plan
+--   put-rest        the rest of a plan is unchanged
+--   length-written  writing an entry for which there is room keeps the length
+--   length-put      writing entries for which there is room keeps the length
+--   room-fits       an entry numbered below the room fits
+--   room-put        writing entries for which there is room keeps the room
+use Prim.Native.Nat.{ℕ, suc, _+_, _*_, _/_, _<_, _≤_}
+use mathlib.Core.Path.{_≡_, refl, sym, ap, _∙_}
+use mathlib.Core.List.{List, [], _∷_, _++_, append-assoc}
+use native.Mathlib.Omega.{arith}
+use lib.ListN.{length, take, drop, set, length-append, length-take, length-drop}
+use lib.Seq.{sets-eq, take-at, drop-at, drop-drop}
+use Rattle.sew_plan.specs.declared.Entry.{Entry}
+use Rattle.sew_plan.specs.Plan.{width, codeOf, entryWords, written, roomOf, planOf, putPlan}
+
+-- ---- one entry
+
+pub length-words : (e : Entry) → length (entryWords e) ≡ width
+length-words e = refl
+
+four-stores : (plan : List ℕ) (p a b c d : ℕ) → p + 4 ≤ length plan
+    → set (set (set (set plan p a) (p + 1) b) (p + 2) c) (p + 3) d ≡ take p plan ++ ((a ∷ b ∷ c ∷ d ∷ []) ++ drop (p + 4) plan)
+four-stores plan p a b c d h =
+    let e1 : p + 1 ≡ suc p = omega arith in
+    let e2 : p + 2 ≡ suc (suc p) = omega arith in
+    let e3 : p + 3 ≡ suc (suc (suc p)) = omega arith in
+    rw (e1, e2, e3) (sets-eq (a ∷ b ∷ c ∷ d ∷ []) plan p h ∙ append-assoc (take p plan) (a ∷ b ∷ c ∷ d ∷ []) (drop (p + 4) plan))
+
+pub entry-stored : (plan : List ℕ) (k : ℕ) (e : Entry) (n : ℕ) → n ≡ codeOf (e .class) (e .kind) → width * k + width ≤ length plan
+    → set (set (set (set plan (width * k) n) (width * k + 1) (e .a)) (width * k + 2) (e .b)) (width * k + 3) (e .c) ≡ written plan k e
+unfolding written
+entry-stored plan k e n en h = four-stores plan (width * k) n (e .a) (e .b) (e .c) h ∙ rw en
+
+-- ---- lists of entries
+
+pub length-planOf : (es : List Entry) → length (planOf es) ≡ width * length es
+unfolding planOf
+length-planOf [] = refl
+length-planOf (e ∷ es) = let h : length (planOf es) ≡ width * length es = length-planOf es in omega arith
+
+pub planOf-append : (es fs : List Entry) → planOf (es ++ fs) ≡ planOf es ++ planOf fs
+unfolding planOf
+planOf-append [] fs = refl
+planOf-append (e ∷ es) fs = ap (λ (l : List ℕ). entryWords e ++ l) (planOf-append es fs)
+
+pub put-none : (plan : List ℕ) → putPlan [] plan ≡ plan
+unfolding putPlan planOf
+put-none plan = refl
+
+pub put-front : (es : List Entry) (plan : List ℕ) → take (width * length es) (putPlan es plan) ≡ planOf es
+unfolding putPlan
+put-front es plan = take-at (planOf es) (drop (width * length es) plan) (width * length es) (length-planOf es)
+
+pub put-rest : (es : List Entry) (plan : List ℕ) → drop (width * length es) (putPlan es plan) ≡ drop (width * length es) plan
+unfolding putPlan
+put-rest es plan = drop-at (planOf es) (drop (width * length es) plan) (width * length es) (length-planOf es)
+
+-- the places of two lists of entries are those of the first and, behind them, those of the second
+places-append : (es fs : List Entry) → width * length (es ++ fs) ≡ width * length es + width * length fs
+places-append es fs = simp length-append (omega arith)
+
+-- numbers behind those of a list of entries
+behind : (es fs : List Entry) (plan : List ℕ)
+    → planOf es ++ (planOf fs ++ drop (width * length es + width * length fs) plan) ≡ putPlan (es ++ fs) plan
+unfolding putPlan
+behind es fs plan =
+    sym (append-assoc (planOf es) (planOf fs) (drop (width * length es + width * length fs) plan)) ∙ rw (planOf-append es fs, places-append es fs)
+
+pub put-behind : (es fs : List Entry) (plan : List ℕ)
+    → take (width * length es) (putPlan es plan) ++ putPlan fs (drop (width * length es) (putPlan es plan)) ≡ putPlan (es ++ fs) plan
+unfolding putPlan
+put-behind es fs plan =
+    rw (put-front es plan, put-rest es plan, drop-drop (width * length fs) (width * length es) plan) (behind es fs plan)
+
+pub write-next : (es : List Entry) (plan : List ℕ) (k : ℕ) (e : Entry) → k ≡ length es
+    → written (putPlan es plan) k e ≡ putPlan (es ++ (e ∷ [])) plan
+unfolding written planOf
+write-next es plan k e h =
+    rw (h, put-front es plan, ← drop-drop width (width * length es) (putPlan es plan), put-rest es plan, drop-drop width (width * length es) plan)
+    (behind es (e ∷ []) plan)
+
+pub write-after : (es : List Entry) (plan₀ plan plan′ : List ℕ) (k : ℕ) (e e′ : Entry)
+    → plan ≡ putPlan es plan₀ → k ≡ length es → plan′ ≡ written plan k e → e ≡ e′
+    → plan′ ≡ putPlan (es ++ (e′ ∷ [])) plan₀
+write-after es plan₀ plan plan′ k e e′ h hk w he = w ∙ rw (h, he) (write-next es plan₀ k e′ hk)
+
+-- ---- lengths and room
+
+pub length-written : (plan : List ℕ) (k : ℕ) (e : Entry) → width * k + width ≤ length plan → length (written plan k e) ≡ length plan
+unfolding written
+length-written plan k e h = simp (length-append, length-take, length-drop) (omega arith)
+
+pub length-put : (es : List Entry) (plan : List ℕ) → width * length es ≤ length plan → length (putPlan es plan) ≡ length plan
+unfolding putPlan
+length-put es plan h = simp (length-append, length-drop, length-planOf) (omega arith)
+
+pub room-fits : (plan : List ℕ) (k : ℕ) → k < roomOf plan → width * k + width ≤ length plan
+room-fits plan k h = omega arith
+
+pub room-put : (es : List Entry) (plan : List ℕ) → length es ≤ roomOf plan → roomOf (putPlan es plan) ≡ roomOf plan
+room-put es plan h = ap (λ (n : ℕ). n / width) (length-put es plan (omega arith))

@@ -1,0 +1,69 @@
+-- Plans: entries that say which cells merge or split, as the numbers that a caller's loan holds.
+--
+--   width       how many numbers one entry takes
+--   codeOf      the number that stands for a class and a kind
+--   entryWords  the numbers of one entry
+--   lesserOf    the lesser of two identifiers
+--   mergeOf     the entry of a merge of two cells
+--   splitOf     the entry of a split into two cells
+--   written     a plan after its entry number k was written
+--   roomOf      how many whole entries a plan has room for
+--   planOf      the numbers of a list of entries, one behind another
+--   putPlan     a plan after a list of entries was written from its start
+use Prim.Native.Nat.{ℕ, _+_, _*_, _/_}
+use mathlib.Core.Bool.{cond}
+use mathlib.Core.List.{List, [], _∷_, _++_}
+use lib.Dec.{leb}
+use lib.ListN.{length, take, drop}
+use Rattle.sew_plan.specs.declared.Class.{Class}
+use Rattle.sew_plan.specs.declared.Class.the-variants.{Vertex, Edge, Face}
+use Rattle.sew_plan.specs.declared.Kind.{Kind}
+use Rattle.sew_plan.specs.declared.Kind.the-variants.{Merge, Split}
+use Rattle.sew_plan.specs.declared.Entry.{Entry}
+
+-- "lent u32 numbers in whole entries of four"
+abbrev pub width : ℕ
+width = 4
+
+-- "Each plan entry carries its class and its kind as one code: 1 vertex merge, 2 edge merge, 11 vertex split, 12 edge split, 13 face split."
+-- No sew merges faces; 3 is the number that the others leave for it.
+abbrev pub codeOf : Class → Kind → ℕ
+codeOf Vertex Merge = 1
+codeOf Edge Merge = 2
+codeOf Face Merge = 3
+codeOf Vertex Split = 11
+codeOf Edge Split = 12
+codeOf Face Split = 13
+
+-- "Each plan entry carries its class and its kind as one code .. A merge continues with out, left in, right in; a split with left out, right out, in."
+abbrev pub entryWords : Entry → List ℕ
+entryWords e = codeOf (e .class) (e .kind) ∷ e .a ∷ e .b ∷ e .c ∷ []
+
+-- "Out is the lesser."
+abbrev pub lesserOf : ℕ → ℕ → ℕ
+lesserOf left right = cond (leb left right) left right
+
+-- "A merge continues with out, left in, right in"
+unfoldable pub mergeOf : Class → ℕ → ℕ → Entry
+mergeOf cells left right = record { class = cells; kind = Merge; a = lesserOf left right; b = left; c = right }
+
+-- "a split with left out, right out, in"
+unfoldable pub splitOf : Class → ℕ → ℕ → Entry
+splitOf cells left right = record { class = cells; kind = Split; a = left; b = right; c = lesserOf left right }
+
+-- "in whole entries of four": entry number k takes the places from width * k on, and no other place changes
+unfoldable pub written : List ℕ → ℕ → Entry → List ℕ
+written plan k e = take (width * k) plan ++ (entryWords e ++ drop (width * k + width) plan)
+
+-- "in whole entries of four; a remainder is never touched"
+abbrev pub roomOf : List ℕ → ℕ
+roomOf plan = length plan / width
+
+-- "Each plan entry carries its class and its kind as one code": one entry's numbers behind another's
+unfoldable pub planOf : List Entry → List ℕ
+planOf [] = []
+planOf (e ∷ es) = entryWords e ++ planOf es
+
+-- "Output and plan beyond the count are unchanged."
+unfoldable pub putPlan : List Entry → List ℕ → List ℕ
+putPlan es plan = planOf es ++ drop (width * length es) plan

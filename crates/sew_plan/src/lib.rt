@@ -1,0 +1,106 @@
+// The plan of a sew: entries that say which cells merge or split, written as whole groups of u32 numbers.
+ghost use mathlib.Core.Path.{_≡_};
+ghost use Prim.Native.Nat.{_+_, _*_, _≤_};
+ghost use lib.ListN.{length};
+ghost use Rattle.sew_plan.specs.Plan.{width, codeOf, lesserOf, mergeOf, splitOf, written, roomOf};
+
+// The numbers that one entry takes: its code and three identifiers.
+pub const WIDTH: usize = 4;
+
+// The cells that an entry is about.
+pub enum Class {
+    Vertex,
+    Edge,
+    Face,
+}
+
+// What becomes of them.
+pub enum Kind {
+    Merge,
+    Split,
+}
+
+// An entry. A merge has a: out, b: left in, c: right in; a split has a: left out, b: right out, c: in.
+pub struct Entry {
+    pub class: Class,
+    pub kind: Kind,
+    pub a: u32,
+    pub b: u32,
+    pub c: u32,
+}
+
+// The lesser of two identifiers.
+fn lesser(left: u32, right: u32) -> u32
+    ensures { λ r. ⌜ r ≡ lesserOf left right ⌝ }
+{
+    if left <= right { left } else { right }
+}
+
+// The merge of two cells into the one that keeps the lesser identifier.
+pub fn merge(class: Class, left: u32, right: u32) -> Entry
+    ensures { λ r. ⌜ r ≡ mergeOf class left right ⌝ }
+{
+    let out = lesser(left, right);
+    Entry {
+        class,
+        kind: Kind::Merge,
+        a: out,
+        b: left,
+        c: right,
+    }
+}
+
+// The split of the cell with the lesser identifier into two.
+pub fn split(class: Class, left: u32, right: u32) -> Entry
+    ensures { λ r. ⌜ r ≡ splitOf class left right ⌝ }
+{
+    let from = lesser(left, right);
+    Entry {
+        class,
+        kind: Kind::Split,
+        a: left,
+        b: right,
+        c: from,
+    }
+}
+
+// The one number that stands for an entry's class and kind.
+pub fn code(e: Entry) -> u32
+    ensures { λ r. ⌜ r ≡ codeOf (e .class) (e .kind) ⌝ }
+{
+    let class = e.class;
+    let kind = e.kind;
+    match class {
+        Class::Vertex => match kind {
+            Kind::Merge => 1,
+            Kind::Split => 11,
+        },
+        Class::Edge => match kind {
+            Kind::Merge => 2,
+            Kind::Split => 12,
+        },
+        Class::Face => match kind {
+            Kind::Merge => 3,
+            Kind::Split => 13,
+        },
+    }
+}
+
+// How many whole entries a plan has room for.
+pub fn room(plan: &[u32]) -> usize
+    ensures { λ r. ⌜ r ≡ roomOf (now (plan .entry)) ⌝ }
+{
+    plan.len() / WIDTH
+}
+
+// Writes an entry as the plan's entry number `at`, and nothing else.
+pub fn write_entry(plan: &mut [u32], at: usize, e: Entry)
+    requires { ⌜ width * at + width ≤ length (now plan) ⌝ }
+    ensures { λ _. ⌜ now (plan .exit) ≡ written (now (plan .entry)) at e ⌝ }
+{
+    let p = WIDTH * at;
+    plan[p] = code(e);
+    plan[p + 1] = e.a;
+    plan[p + 2] = e.b;
+    plan[p + 3] = e.c;
+}

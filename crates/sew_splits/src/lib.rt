@@ -1,0 +1,2 @@
+// The plan of a 3-unsew.
+pub mod splits;

@@ -1,0 +1,27 @@
+-- The proved examples of document 01: each call of the table leaves what the document says (`agree`), computed from the definitions that the calls'
+-- contracts cite. Assumes nothing.
+use mathlib.Core.Path.{_≡_, refl}
+use Rattle.map_betas.specs.Maps.{badSize, breaks, breachAt, firstBreach, mapTest}
+use Rattle.map_betas.specs.Guards.{loanTest, noDart, guardOf}
+use Rattle.map_betas.specs.Cores.{linkCore, unlinkCore}
+use Rattle.link_walk.specs.Walk.{stepOf, walk}
+use Rattle.link_walk.specs.Three.{threeLinkOn, threeUnlinkOn}
+use Rattle.link_walk.specs.Calls.{threeLink, threeUnlink}
+use Rattle.link_glue.specs.Examples.{calls, sayings, lines as linkLines}
+use Rattle.cell_steps.specs.Steps.{image}
+use Rattle.cell_steps.specs.Search.{mem, add, visit, search, orbit}
+use Rattle.cell_steps.specs.Idents.{leastFrom, least, ident}
+use Rattle.cell_faces.specs.Faces.{fresh, insert, lower, turn, leg, forward, backward, faceWalk, faceId}
+use Rattle.cell_names.specs.Calls.{idCall}
+use Rattle.sew_plan.specs.Plan.{splitOf, planOf, putPlan}
+use Rattle.sew_ground.specs.Entries.{entriesIf}
+use Rattle.sew_ground.specs.Sewn.{settled, sewn}
+use Rattle.sew_pairs.specs.Pairs.{threeFar, pairEntries, legOver, entriesFrom, tallied, tallyFrom}
+use Rattle.sew_pairs.specs.Three.{startTally, firstTally, backTally, wholeTally, firstEntries, backEntries, splitsOf, threeEntries, threeUnsewOn}
+use Rattle.sew_pairs.specs.Calls.{threeUnsew}
+use Rattle.sew_pairs.specs.Examples.{lines as unsewLines}
+use Rattle.test_examples.specs.Table.{seen, faceLines, table}
+
+pub agree : calls table ≡ sayings table
+unfolding table seen faceLines linkLines unsewLines calls sayings threeLink threeUnlink threeUnsew idCall guardOf loanTest noDart mapTest firstBreach breachAt breaks badSize threeLinkOn threeUnlinkOn linkCore unlinkCore stepOf walk image mem add visit search orbit leastFrom least ident fresh insert lower turn leg forward backward faceWalk faceId splitOf planOf putPlan entriesIf settled sewn threeFar pairEntries legOver entriesFrom tallied tallyFrom startTally firstTally backTally wholeTally firstEntries backEntries splitsOf threeEntries threeUnsewOn
+agree = refl

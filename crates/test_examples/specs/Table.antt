@@ -1,0 +1,65 @@
+-- The proved examples ("P") of document 01, all of them, as one table; `proofs/Agree.antt` has the one claim over it.
+--   Shown             what a line shows: an answer, the rows and the plan that a call leaves
+--   ofLink, ofFace, ofSew   what a link, a face identifier and an unsew show
+--   seen f lines      lines of another crate, as shown by f
+--   faceLines         "open 1 2: face of 2; of 1" is "2; 1", and the maps that tell the walk of `face_id` from its variants
+--   table             the lines of links, faces and unsews
+use Prim.Native.Nat.{ℕ}
+use mathlib.Core.List.{List, [], _∷_, _++_}
+use Rattle.map_betas.specs.declared.error.Answer.{Answer}
+use Rattle.map_betas.specs.declared.error.Answer.the-variants.{Done}
+use Rattle.map_betas.specs.Answers.{Out}
+use Rattle.link_glue.specs.Examples.{Line, line, row, free, pair, lines as linkLines}
+use Rattle.cell_names.specs.declared.identifiers.Class.the-variants.{Face}
+use Rattle.cell_names.specs.Calls.{IdLeft, idCall}
+use Rattle.sew_ground.specs.Calls.{SewLeft}
+use Rattle.sew_pairs.specs.Examples.{zeros3, zeros4, lines as unsewLines}
+
+pub record Shown : Type 0 where
+  pub answer : Answer
+  pub rows : List ℕ
+  pub plan : List ℕ
+
+abbrev pub shown : Answer → List ℕ → List ℕ → Shown
+shown a rows plan = record { answer = a; rows = rows; plan = plan }
+
+abbrev pub ofLink : Out → Shown
+ofLink o = shown (o .answer) (o .rows) []
+
+abbrev pub ofFace : List ℕ → IdLeft → Shown
+ofFace rows l = shown (l .answer) rows []
+
+abbrev pub ofSew : SewLeft → Shown
+ofSew l = shown (l .answer) (l .rows) (l .plan)
+
+unfoldable pub seen : {A : Type 0} → (A → Shown) → List (Line A) → List (Line Shown)
+seen f [] = []
+seen f (l ∷ ls) = line (f (l .call)) (f (l .says)) ∷ seen f ls
+
+-- the face of d, and what the document says
+abbrev pub face : List ℕ → List ℕ → ℕ → ℕ → Line Shown
+face rows zeros d says = line (ofFace rows (idCall rows zeros zeros Face d)) (shown (Done says 0) rows [])
+
+-- n = 4, b1(3) = 2, b1(2) = 1, b3(2) = 3
+abbrev pub crossed : List ℕ
+crossed = free ++ row 2 0 0 0 ++ row 3 1 0 3 ++ row 0 2 0 2
+
+-- n = 5, b1(3) = 2, b1(2) = 1, b1(4) = 4, b3(3) = 4
+abbrev pub loop-start : List ℕ
+loop-start = free ++ row 2 0 0 0 ++ row 3 1 0 0 ++ row 0 2 0 4 ++ row 4 4 0 3
+
+-- n = 5, b1(1) = 2, b1(2) = 3, b1(4) = 4, b3(3) = 4
+abbrev pub loop-end : List ℕ
+loop-end = free ++ row 0 2 0 0 ++ row 1 3 0 0 ++ row 2 0 0 4 ++ row 4 4 0 3
+
+unfoldable pub faceLines : List (Line Shown)
+faceLines =
+    face pair zeros3 2 2
+    ∷ face pair zeros3 1 1
+    ∷ face crossed zeros4 3 1
+    ∷ face loop-start (0 ∷ zeros4) 4 1
+    ∷ face loop-end (0 ∷ zeros4) 4 1
+    ∷ []
+
+unfoldable pub table : List (Line Shown)
+table = seen ofLink linkLines ++ (faceLines ++ seen ofSew unsewLines)

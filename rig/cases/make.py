@@ -1,5 +1,5 @@
 #!/usr/bin/env python3
-"""Writes the inputs of the report programs: the cases of report_cases, and the input that is too long.
+"""Writes the inputs of the report programs: the cases of test_report_cases, and the input that is too long.
 
 Usage: make.py CASES_FILE LONG_FILE [FOLDER]
 With FOLDER each case is also written there as a file of its own, NNN.img.
@@ -17,7 +17,7 @@ from make_examples import cube_mesh, image, loops, mesh, open_strip, tetrahedron
 
 NAN = struct.unpack("<d", struct.pack("<Q", 0x7FF8000000000000))[0]
 INF = float("inf")
-# the bytes that report_cases reads
+# the bytes that test_report_cases reads
 ROOM = 131072
 
 

@@ -1,4 +1,4 @@
-"""Bytes that are no image, or nearly one: the first cases of each kind of the program report_noise.
+"""Bytes that are no image, or nearly one: the first cases of each kind of the program test_report_noise.
 
 The kinds are told in crates/test_report_noise/src/kinds.rt; each puts more right than the one before. They are made here by
 themselves, so that the program, rig/model and this file can be held against each other.

@@ -1,5 +1,5 @@
 #!/usr/bin/env python3
-"""Makes the list of answers that the crate `replay` runs: crates/test_replay/stdin.
+"""Makes the list of answers that the crate `test_replay` runs: crates/test_replay/stdin.
 
 The answers are printed by the comparison program of rig/compare:
 

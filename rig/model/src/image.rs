@@ -138,7 +138,7 @@ pub fn report(input: &[u8]) -> String {
     }
 }
 
-/// What the program `report_cases` must print for its standard input: cases, each a length in four
+/// What the program `test_report_cases` must print for its standard input: cases, each a length in four
 /// little-endian bytes and then as many bytes, or all that are left.
 pub fn case_reports(input: &[u8]) -> String {
     let mut text = String::new();

@@ -10,17 +10,17 @@ fn stored(name: &str) -> Vec<u8> {
 
 #[test]
 fn noise() {
-    assert_eq!(model::noise::lines().into_bytes(), stored("report_noise/stdout"));
+    assert_eq!(model::noise::lines().into_bytes(), stored("test_report_noise/stdout"));
 }
 
 #[test]
 fn cases() {
-    assert_eq!(model::case_reports(&stored("report_cases/stdin")).into_bytes(), stored("report_cases/stdout"));
+    assert_eq!(model::case_reports(&stored("test_report_cases/stdin")).into_bytes(), stored("test_report_cases/stdout"));
 }
 
 #[test]
 fn too_long() {
-    assert_eq!(model::report(&stored("report_long/stdin")).into_bytes(), stored("report_long/stdout"));
+    assert_eq!(model::report(&stored("test_report_long/stdin")).into_bytes(), stored("test_report_long/stdout"));
 }
 
 #[test]
@@ -28,7 +28,7 @@ fn one_image() {
     assert_eq!(model::report(&stored("report/stdin")).into_bytes(), stored("report/stdout"));
 }
 
-/// The cases behind the others in `report_cases` are the first 30 of each kind of `report_noise`.
+/// The cases behind the others in `test_report_cases` are the first 30 of each kind of `test_report_noise`.
 #[test]
 fn the_same_noise() {
     let mut wanted = Vec::new();
@@ -40,5 +40,5 @@ fn the_same_noise() {
             wanted.extend(case);
         }
     }
-    assert!(stored("report_cases/stdin").ends_with(&wanted));
+    assert!(stored("test_report_cases/stdin").ends_with(&wanted));
 }

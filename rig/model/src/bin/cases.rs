@@ -1,4 +1,4 @@
-//! What the program `report_cases` must print: cases from standard input, each a length in four
+//! What the program `test_report_cases` must print: cases from standard input, each a length in four
 //! little-endian bytes and then as many bytes; each one's number and the model's report to standard output.
 
 use std::io::{Read, Write};

@@ -1,4 +1,4 @@
-//! What the program `report_noise` must print.
+//! What the program `test_report_noise` must print.
 
 fn main() {
     print!("{}", model::noise::lines());

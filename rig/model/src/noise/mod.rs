@@ -1,4 +1,4 @@
-//! Bytes that are no image, or nearly one: the cases of the program `report_noise`, made once more, and
+//! Bytes that are no image, or nearly one: the cases of the program `test_report_noise`, made once more, and
 //! what it must print.
 
 mod cases;

@@ -1,11 +1,11 @@
-//! What came of cases, and the lines that `report_noise` must print.
+//! What came of cases, and the lines that `test_report_noise` must print.
 
 use std::fmt;
 
 use super::cases::{NAMES, Noise, case};
 use crate::{Answer, report};
 
-/// The most darts of a case of `report_noise`.
+/// The most darts of a case of `test_report_noise`.
 const MOST: usize = 6;
 /// Its cases of each kind.
 const CASES: usize = 2000;
@@ -52,7 +52,7 @@ fn told(text: &str) -> Answer {
     (numbers[0] as u32, [numbers[1], numbers[2], numbers[3]])
 }
 
-/// What `report_noise` must print: a line for each kind, with a sum over every byte of every report.
+/// What `test_report_noise` must print: a line for each kind, with a sum over every byte of every report.
 pub fn lines() -> String {
     let mut lines = String::new();
     for (kind, name) in NAMES.iter().enumerate() {

@@ -1,2 +1,2 @@
-// Identifiers and lists: the calls. Ports the identifiers and lists of dim3/basic_ops.rs.
+// Identifiers: the calls. Ports the identifiers of dim3/basic_ops.rs.
 pub mod basic_ops;

@@ -1,37 +1,35 @@
-// The list of faces. Where a face is regular one walk round its chain serves all of its darts; elsewhere each dart is asked by the walk of `face_id`.
+// The list of faces. Where a face is regular one walk round its chain serves all of its darts; elsewhere each dart is walked from as `face_id` walks.
 use cell_faces::walk::walk;
-use cell_search::scratch::clear;
-use cell_search::scratch::wipe_marks;
-use cell_search::scratch::wipe_queue;
-use cell_search::search::push;
+use cell_lists::put_own;
+use cell_scratch::scratch::clear;
+use cell_scratch::scratch::wipe_marks;
+use cell_scratch::scratch::wipe_queue;
+use cell_scratch::steps::push;
 use map_betas::betas::beta_at;
 ghost use mathlib.Core.Path.{_≡_};
-ghost use mathlib.Core.Bool.{_&&_};
-ghost use lib.Dec.{eqb};
 ghost use Prim.Native.Nat.{_<_, _≤_};
 ghost use lib.ListN.{length, take};
 ghost use Rattle.map_betas.specs.Betas.{darts};
 ghost use Rattle.map_betas.specs.Maps.{WellFormed};
 ghost use Rattle.cell_steps.specs.Loans.{Zero, Queue, Grown, Scratch, Listed};
 ghost use Rattle.cell_steps.specs.Calls.{wiped};
-ghost use Rattle.cell_joins.specs.CellLists.{Put, cellsBy};
+ghost use Rattle.cell_lists.specs.CellLists.{cellsBy};
 ghost use Rattle.cell_faces.specs.Faces.{faceId, regular};
-ghost use Rattle.cell_faces.specs.FaceLists.{goRound, Faced, Apart, Asked, Sighted};
+ghost use Rattle.cell_faces.specs.FaceLists.{goRound, Faced, Apart, WalkedId, DartTested};
 
 // Whether d is its own face identifier, and how many darts the list has done with then.
-pub struct Sight {
+pub struct DartTest {
     pub own: bool,
     pub known: usize,
 }
 
-// Whether the chain of d is closed and each of its beta 1 steps is a beta 0 step between the beta 3 images.
+// Whether the chain of d is closed and each of its beta 1 steps is a beta 0 step between the beta 3 images. The chain comes to null or back to d.
 fn is_regular(rows: &[u32], d: u32) -> bool
     requires { ⌜ WellFormed (now rows) × (d < darts (now rows)) ⌝ }
     ensures { λ r. ⌜ r ≡ regular (now (rows .entry)) d ⌝ }
 {
-    let mut left = rows.len() / 4;
     let mut x = d;
-    while 0 < left {
+    loop {
         let y = beta_at(rows, 1, x);
         if y == 0 {
             return false;
@@ -44,35 +42,35 @@ fn is_regular(rows: &[u32], d: u32) -> bool
             return true;
         }
         x = y;
-        left -= 1;
     }
-    false
 }
 
-// Puts the darts of d's chain behind the queue, each with its beta 3 image, once round.
+// Puts the darts of d's chain behind the queue, each with its beta 3 image, from d on until null or once round.
 fn go_round(rows: &[u32], marks: &mut [u8], queue: &mut [u32], known: usize, d: u32) -> usize
     requires { ⌜ Scratch (now rows) (now marks) (now queue) × (d < darts (now rows)) × Queue (now marks) (now queue) known ⌝ }
-    ensures { λ r. ⌜ Grown (now (queue .entry)) known (goRound (now (rows .entry)) d (take known (now (queue .entry)))) (now (marks .exit)) (now (queue .exit)) r ⌝ }
+    ensures { λ r. ⌜ Grown (now (queue .entry)) known (goRound (now (rows .entry)) d (take known (now (queue .entry))))
+        (now (marks .exit)) (now (queue .exit)) r ⌝ }
 {
-    let mut left = rows.len() / 4;
     let mut k = known;
     let mut x = d;
-    while 0 < left {
+    loop {
         let a = push(marks, queue, k, x);
         k = push(marks, queue, a, beta_at(rows, 3, x));
         x = beta_at(rows, 1, x);
         if x == d {
             return k;
         }
-        left -= 1;
+        if x == 0 {
+            return k;
+        }
     }
-    k
 }
 
 // The face identifier of d by the walk, with the darts that the list has done with marked: d reaches none of them.
-fn ask(rows: &[u32], marks: &mut [u8], queue: &mut [u32], known: usize, d: u32) -> u32
-    requires { ⌜ Scratch (now rows) (now marks) (now queue) × (d < darts (now rows)) × Queue (now marks) (now queue) known × Apart (now rows) d (take known (now queue)) ⌝ }
-    ensures { λ r. ⌜ Asked (now (rows .entry)) d (now (queue .entry)) known (now (marks .exit)) (now (queue .exit)) r ⌝ }
+fn walked_id(rows: &[u32], marks: &mut [u8], queue: &mut [u32], known: usize, d: u32) -> u32
+    requires { ⌜ Scratch (now rows) (now marks) (now queue) × (d < darts (now rows)) × Queue (now marks) (now queue) known
+        × Apart (now rows) d (take known (now queue)) ⌝ }
+    ensures { λ r. ⌜ WalkedId (now (rows .entry)) d (now (queue .entry)) known (now (marks .exit)) (now (queue .exit)) r ⌝ }
 {
     let w = walk(rows, marks, queue, known, d);
     let more = w.k - known;
@@ -80,42 +78,28 @@ fn ask(rows: &[u32], marks: &mut [u8], queue: &mut [u32], known: usize, d: u32) 
     w.low
 }
 
-// Looks at d: a dart that is done with is not its own identifier, a regular one that is not is, and its whole face is then done with.
-fn look(rows: &[u32], marks: &mut [u8], queue: &mut [u32], known: usize, d: u32) -> Sight
-    requires { ⌜ Scratch (now rows) (now marks) (now queue) × (0 < d) × (d < darts (now rows)) × Queue (now marks) (now queue) known × Faced (now rows) d (take known (now queue)) ⌝ }
-    ensures { λ r. ⌜ Sighted (now (rows .entry)) d (now (queue .entry)) (now (marks .exit)) (now (queue .exit)) (r .own) (r .known) ⌝ }
+// Tests d: a dart that is done with is not its own identifier, a regular one that is not is, and its whole face is then done with.
+fn test_dart(rows: &[u32], marks: &mut [u8], queue: &mut [u32], known: usize, d: u32) -> DartTest
+    requires { ⌜ Scratch (now rows) (now marks) (now queue) × (0 < d) × (d < darts (now rows)) × Queue (now marks) (now queue) known
+        × Faced (now rows) d (take known (now queue)) ⌝ }
+    ensures { λ r. ⌜ DartTested (now (rows .entry)) d (now (queue .entry)) (now (marks .exit)) (now (queue .exit)) (r .own) (r .known) ⌝ }
 {
     let at = d as usize;
     if marks[at] != 0 {
-        return Sight { own: false, known };
+        return DartTest { own: false, known };
     }
     if is_regular(rows, d) {
         let more = go_round(rows, marks, queue, known, d);
-        return Sight {
+        return DartTest {
             own: true,
             known: more,
         };
     }
-    let id = ask(rows, marks, queue, known, d);
-    Sight {
+    let id = walked_id(rows, marks, queue, known, d);
+    DartTest {
         own: id == d,
         known,
     }
-}
-
-// Puts x behind the first count places, where it is its own identifier and not unused.
-fn keep(output: &mut [u32], count: usize, x: u32, own: bool, flag: u8) -> usize
-    requires { ⌜ count < length (now output) ⌝ }
-    ensures { λ r. ⌜ Put (eqb flag 0 && own) x (now (output .entry)) count (now (output .exit)) r ⌝ }
-{
-    if flag != 0 {
-        return count;
-    }
-    if !own {
-        return count;
-    }
-    output[count] = x;
-    count + 1
 }
 
 // Lists the faces: each dart that is not unused and is its own face identifier, in order. The queue's first n places are 0 afterwards.
@@ -126,8 +110,11 @@ pub fn faces_core(
     output: &mut [u32],
     flags: &[u8],
 ) -> usize
-    requires { ⌜ Scratch (now rows) (now marks) (now queue) × (darts (now rows) ≤ length (now output)) × (darts (now rows) ≤ length (now flags)) × Zero (now marks) ⌝ }
-    ensures { λ r. ⌜ (now (marks .exit) ≡ now (marks .entry)) × (now (queue .exit) ≡ wiped (darts (now (rows .entry))) (now (queue .entry))) × Listed (cellsBy (faceId (now (rows .entry))) (darts (now (rows .entry))) (now (flags .entry))) (now (output .entry)) (now (output .exit)) r ⌝ }
+    requires { ⌜ Scratch (now rows) (now marks) (now queue) × (darts (now rows) ≤ length (now output)) × (darts (now rows) ≤ length (now flags))
+        × Zero (now marks) ⌝ }
+    ensures { λ r. ⌜ (now (marks .exit) ≡ now (marks .entry)) × (now (queue .exit) ≡ wiped (darts (now (rows .entry))) (now (queue .entry)))
+        × Listed (cellsBy (faceId (now (rows .entry))) (darts (now (rows .entry))) (now (flags .entry)))
+        (now (output .entry)) (now (output .exit)) r ⌝ }
 {
     let n = marks.len();
     let mut known: usize = 0;
@@ -135,9 +122,9 @@ pub fn faces_core(
     let mut d: usize = 1;
     while d < n {
         let x = d as u32;
-        let s = look(rows, marks, queue, known, x);
+        let s = test_dart(rows, marks, queue, known, x);
         known = s.known;
-        count = keep(output, count, x, s.own, flags[d]);
+        count = put_own(output, count, x, s.own, flags[d]);
         d += 1;
     }
     wipe_marks(marks, n);

@@ -127,7 +127,9 @@ module _ (rows : List ℕ) (m : WellFormed rows) (k : List ℕ) (d : ℕ) (apart
       ap (λ (x : Walk). cond (eqb (x .l) 0) (backward rows d x) (cond (eqb (x .r) 0) (backward rows d x) x)) forward-over
       ∙ go (forward rows [] d) (eqb (forward rows [] d .l) 0) (eqb (forward rows [] d .r) 0)
     where
-      go : (x : Walk) (a b : Bool) → cond a (backward rows d (over k x)) (cond b (backward rows d (over k x)) (over k x)) ≡ over k (cond a (backward rows d x) (cond b (backward rows d x) x))
+      go : (x : Walk) (a b : Bool) →
+          cond a (backward rows d (over k x)) (cond b (backward rows d (over k x)) (over k x)) ≡ over k
+          (cond a (backward rows d x) (cond b (backward rows d x) x))
       go x true b = backward-over x
       go x false true = backward-over x
       go x false false = refl

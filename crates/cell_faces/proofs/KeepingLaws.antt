@@ -6,7 +6,7 @@
 use Prim.Native.Nat.{ℕ, suc, _+_, _-_, _≤_, _<_}
 use native.Mathlib.Omega.{arith}
 use mathlib.Core.Path.{_≡_, refl, sym, ap, _∙_}
-use mathlib.Core.Bool.{Bool, true, false, cond, _&&_}
+use mathlib.Core.Bool.{Bool, true, false, cond, _&&_, and-comm}
 use mathlib.Core.List.{List, [], _∷_, _++_, append-assoc, append-nil}
 use lib.Dec.{eqb}
 use lib.ListN.{length, getD, take, drop, replicate, take-append-drop}
@@ -17,10 +17,10 @@ use Rattle.cell_steps.specs.Loans.{Queue, Listed, Zero}
 use Rattle.cell_steps.specs.Calls.{wiped}
 use Rattle.cell_steps.proofs.QueueLaws.{queue-none}
 use Rattle.cell_steps.proofs.TurnLaws.{drop-more}
-use Rattle.cell_joins.specs.CellLists.{cellsFrom, cellsBy, Put}
-use Rattle.cell_joins.proofs.ListingLaws.{marks-same}
+use Rattle.cell_lists.specs.CellLists.{cellsFrom, cellsBy, Put}
+use Rattle.cell_lists.proofs.ListingLaws.{marks-same}
 use Rattle.cell_faces.specs.Faces.{faceId}
-use Rattle.cell_faces.specs.FaceLists.{Faced, Sighted}
+use Rattle.cell_faces.specs.FaceLists.{Faced, DartTested}
 use Rattle.cell_faces.proofs.FacedLaws.{faced-starts}
 
 pub record Keeping (rows flags marks₀ queue₀ out₀ marks queue out : List ℕ) (known count d : ℕ) : Type 0 where
@@ -37,7 +37,8 @@ pub record Keeping (rows flags marks₀ queue₀ out₀ marks queue out : List �
   pub rest : drop count out ≡ drop count out₀
 
 -- one step of the list, by the test
-one : (id : ℕ → ℕ) (flags : List ℕ) (d f : ℕ) → cellsFrom id flags d (suc f) ≡ cond (eqb (getD flags d 0) 0 && eqb (id d) d) (d ∷ []) [] ++ cellsFrom id flags (d + 1) f
+one : (id : ℕ → ℕ) (flags : List ℕ) (d f : ℕ) →
+    cellsFrom id flags d (suc f) ≡ cond (eqb (getD flags d 0) 0 && eqb (id d) d) (d ∷ []) [] ++ cellsFrom id flags (d + 1) f
 unfolding cellsFrom
 one id flags d f = go (eqb (getD flags d 0) 0 && eqb (id d) d)
   where
@@ -64,10 +65,12 @@ module _ (rows : List ℕ) (w : WellFormed rows) (flags marks₀ queue₀ out₀
       }
 
   module _ (marks queue out : List ℕ) (known count d : ℕ) (v : Keeping rows flags marks₀ queue₀ out₀ marks queue out known count d) where
-    pub keeping-turn : (marks′ queue′ out′ : List ℕ) (own : Bool) (r c : ℕ) → d < darts rows → length marks′ ≡ length marks → length queue′ ≡ length queue → length out′ ≡ length out →
-        Sighted rows d queue marks′ queue′ own r → Put (eqb (getD flags d 0) 0 && own) d out count out′ c →
+    pub keeping-turn : (marks′ queue′ out′ : List ℕ) (own : Bool) (r c : ℕ) → d < darts rows → length marks′ ≡ length marks → length queue′ ≡ length queue →
+        length out′ ≡ length out →
+        DartTested rows d queue marks′ queue′ own r → Put (own && eqb (getD flags d 0) 0) d out count out′ c →
         Keeping rows flags marks₀ queue₀ out₀ marks′ queue′ out′ r c (d + 1)
-    keeping-turn marks′ queue′ out′ own r c h e-m e-q e-o s p =
+    keeping-turn marks′ queue′ out′ own r c h e-m e-q e-o s q =
+        let p : Put (eqb (getD flags d 0) 0 && own) d out count out′ c = rw (and-comm own (eqb (getD flags d 0) 0)) at q in
         let f : darts rows - d ≡ suc (darts rows - (d + 1)) = omega arith in
         record {
           marks-n = e-m ∙ v .marks-n;
@@ -82,7 +85,8 @@ module _ (rows : List ℕ) (w : WellFormed rows) (flags marks₀ queue₀ out₀
           left =
               ap (λ (x : List ℕ). x ++ cellsFrom (faceId rows) flags (d + 1) (darts rows - (d + 1)))
               (p .front ∙ ap (λ (k : Bool). take count out ++ cond (eqb (getD flags d 0) 0 && k) (d ∷ []) []) (s .own-is))
-              ∙ append-assoc (take count out) (cond (eqb (getD flags d 0) 0 && eqb (faceId rows d) d) (d ∷ []) []) (cellsFrom (faceId rows) flags (d + 1) (darts rows - (d + 1)))
+              ∙ append-assoc (take count out) (cond (eqb (getD flags d 0) 0 && eqb (faceId rows d) d) (d ∷ []) [])
+              (cellsFrom (faceId rows) flags (d + 1) (darts rows - (d + 1)))
               ∙ ap (λ (x : List ℕ). take count out ++ x) (sym (one (faceId rows) flags d (darts rows - (d + 1))))
               ∙ ap (λ (k : ℕ). take count out ++ cellsFrom (faceId rows) flags d k) (sym f)
               ∙ v .left;

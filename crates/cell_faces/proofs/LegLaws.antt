@@ -24,7 +24,7 @@ use Rattle.cell_steps.proofs.Lists.{in-mem, mem-not}
 use Rattle.cell_steps.proofs.SearchLaws.{Added, null, old, new, added}
 use Rattle.cell_steps.proofs.QueueLaws.{queue-n}
 use Rattle.cell_steps.proofs.TurnLaws.{drop-more}
-use Rattle.cell_joins.proofs.PushLaws.{grown-both}
+use Rattle.cell_lists.proofs.PushLaws.{grown-both}
 use Rattle.cell_faces.specs.Faces.{fresh, insert, lower, Walk, turn, leg, forward, backward, faceWalk, Walked}
 
 -- ---- one insertion
@@ -86,7 +86,8 @@ module _ (q : List ℕ) (k l r : ℕ) (w : k ≤ length q) where
       (λ f. (f, omega (arith, g .more)))
       (add-cases (take k q) l)
 
-  pub inserted-right : (m q′ : List ℕ) (a : ℕ) → Grown q k (add (take k q) l) m q′ a → a ≤ k → (m₂ q₂ : List ℕ) (c : ℕ) → Grown q′ k (add (take k q′) r) m₂ q₂ c → Grown q k (insert (take k q) l r) m₂ q₂ c
+  pub inserted-right : (m q′ : List ℕ) (a : ℕ) → Grown q k (add (take k q) l) m q′ a → a ≤ k → (m₂ q₂ : List ℕ) (c : ℕ) →
+      Grown q′ k (add (take k q′) r) m₂ q₂ c → Grown q k (insert (take k q) l r) m₂ q₂ c
   inserted-right m q′ a g h m₂ q₂ c g₂ =
       let u = unchanged m q′ a g h in
       let e : a ≡ k = u .1 in
@@ -112,7 +113,8 @@ module _ (rows : List ℕ) (i j : ℕ) (w : Walk) where
   leg-done (suc f) e = ap (λ (b : Bool). cond b (leg rows i j f (turn rows i j w)) w) e
 
 -- an insertion lengthens the list by one, or neither dart is fresh
-pub insert-cases : (s : List ℕ) (l r : ℕ) → (((fresh s l || fresh s r) ≡ true) × (length (insert s l r) ≡ suc (length s))) ⊎ (((fresh s l || fresh s r) ≡ false) × (insert s l r ≡ s))
+pub insert-cases : (s : List ℕ) (l r : ℕ) →
+    (((fresh s l || fresh s r) ≡ true) × (length (insert s l r) ≡ suc (length s))) ⊎ (((fresh s l || fresh s r) ≡ false) × (insert s l r ≡ s))
 insert-cases s l r =
     ⊎-elim
     (λ f. inl (ap (λ (b : Bool). b || fresh s r) (f .is), ap length (insert-left s l r (f .is)) ∙ f .longer))
@@ -128,7 +130,8 @@ insert-cases s l r =
 pub record Walking (rows : List ℕ) (i j : ℕ) (marks₀ queue₀ : List ℕ) (k₀ l₀ r₀ low₀ : ℕ) (marks queue : List ℕ) (k l r low : ℕ) : Type 0 where
   pub marks-n : length marks ≡ length marks₀
   pub queue-same : length queue ≡ length queue₀
-  pub left : leg rows i j (darts rows - (k - k₀)) (record { seen = take k queue; l = l; r = r; low = low }) ≡ leg rows i j (darts rows) (record { seen = take k₀ queue₀; l = l₀; r = r₀; low = low₀ })
+  pub left : leg rows i j (darts rows - (k - k₀)) (record { seen = take k queue; l = l; r = r; low = low }) ≡ leg rows i j (darts rows)
+      (record { seen = take k₀ queue₀; l = l₀; r = r₀; low = low₀ })
   pub back : drop k queue ≡ drop k queue₀
   pub more : k₀ ≤ k
   pub held : Queue marks queue k
@@ -151,11 +154,14 @@ module _ (rows : List ℕ) (i j : ℕ) (marks₀ queue₀ : List ℕ) (k₀ l₀
         r-lt = b;
       }
 
-  module _ (marks queue : List ℕ) (k l r low : ℕ) (v : Walking rows i j marks₀ queue₀ k₀ l₀ r₀ low₀ marks queue k l r low) (marks′ queue′ : List ℕ) (m : ℕ) (g : Grown queue k (insert (take k queue) l r) marks′ queue′ m) where
+  module _ (marks queue : List ℕ) (k l r low : ℕ) (v : Walking rows i j marks₀ queue₀ k₀ l₀ r₀ low₀ marks queue k l r low) (marks′ queue′ : List ℕ) (m : ℕ)
+      (g : Grown queue k (insert (take k queue) l r) marks′ queue′ m) where
     s-is : length (take k queue) ≡ k
     s-is = length-take-le k queue (v .held .room)
 
-    pub walking-turn : k < m → length marks′ ≡ length marks → length queue′ ≡ length queue → Bounded rows → length marks₀ ≡ darts rows → (l′ r′ low₁ low′ : ℕ) → l′ ≡ beta rows i l → r′ ≡ beta rows j r → low₁ ≡ lower low l′ → low′ ≡ lower low₁ r′ → Walking rows i j marks₀ queue₀ k₀ l₀ r₀ low₀ marks′ queue′ m l′ r′ low′
+    pub walking-turn : k < m → length marks′ ≡ length marks → length queue′ ≡ length queue → Bounded rows → length marks₀ ≡ darts rows →
+        (l′ r′ low₁ low′ : ℕ) → l′ ≡ beta rows i l → r′ ≡ beta rows j r → low₁ ≡ lower low l′ → low′ ≡ lower low₁ r′ →
+        Walking rows i j marks₀ queue₀ k₀ l₀ r₀ low₀ marks′ queue′ m l′ r′ low′
     unfolding turn
     walking-turn h e-m e-q b n-is l′ r′ low₁ low′ e-l e-r e-1 e-2 =
         let n : ℕ = darts rows in
@@ -181,7 +187,8 @@ module _ (rows : List ℕ) (i j : ℕ) (marks₀ queue₀ : List ℕ) (k₀ l₀
           r-lt = rw e-r (b _ _);
         }
 
-    pub walking-ends : m ≤ k → Walked (leg rows i j (darts rows) (record { seen = take k₀ queue₀; l = l₀; r = r₀; low = low₀ })) queue₀ k₀ marks′ queue′ k l r low
+    pub walking-ends : m ≤ k →
+        Walked (leg rows i j (darts rows) (record { seen = take k₀ queue₀; l = l₀; r = r₀; low = low₀ })) queue₀ k₀ marks′ queue′ k l r low
     walking-ends h =
         let n : ℕ = darts rows in
         let w : Walk = record { seen = take k queue; l = l; r = r; low = low } in
@@ -210,19 +217,23 @@ module _ (rows s : List ℕ) (d b low₀ : ℕ) (e-b : b ≡ beta rows 3 d) (e-l
   unfolding forward
   forward-is = ap (leg rows 1 0 (darts rows)) (λ t. record { seen = s; l = d; r = e-b t; low = (e-low ∙ ap (lower d) e-b) t })
 
-  backward-is : (w : Walk) (bl br : ℕ) → bl ≡ beta rows 0 d → br ≡ beta rows 1 b → leg rows 0 1 (darts rows) (record { seen = w .seen; l = bl; r = br; low = w .low }) ≡ backward rows d w
+  backward-is : (w : Walk) (bl br : ℕ) → bl ≡ beta rows 0 d → br ≡ beta rows 1 b →
+      leg rows 0 1 (darts rows) (record { seen = w .seen; l = bl; r = br; low = w .low }) ≡ backward rows d w
   unfolding backward
   backward-is w bl br e-l e-r =
       ap (leg rows 0 1 (darts rows)) (λ t. record { seen = w .seen; l = e-l t; r = (e-r ∙ ap (beta rows 1) e-b) t; low = w .low })
 
-  module _ (q : List ℕ) (k₀ : ℕ) (m q′ : List ℕ) (k l r low : ℕ) (h : Walked (leg rows 1 0 (darts rows) (record { seen = s; l = d; r = b; low = low₀ })) q k₀ m q′ k l r low) where
+  module _ (q : List ℕ) (k₀ : ℕ) (m q′ : List ℕ) (k l r low : ℕ)
+      (h : Walked (leg rows 1 0 (darts rows) (record { seen = s; l = d; r = b; low = low₀ })) q k₀ m q′ k l r low) where
     first : Walked (forward rows s d) q k₀ m q′ k l r low
     first = subst (λ (w : Walk). Walked w q k₀ m q′ k l r low) forward-is h
 
-    choice : (x y : Bool) → eqb (forward rows s d .l) 0 ≡ x → eqb (forward rows s d .r) 0 ≡ y → faceWalk rows s d ≡ cond x (backward rows d (forward rows s d)) (cond y (backward rows d (forward rows s d)) (forward rows s d))
+    choice : (x y : Bool) → eqb (forward rows s d .l) 0 ≡ x → eqb (forward rows s d .r) 0 ≡ y →
+        faceWalk rows s d ≡ cond x (backward rows d (forward rows s d)) (cond y (backward rows d (forward rows s d)) (forward rows s d))
     unfolding faceWalk
     choice x y e f =
-        ap (λ (t : Bool). cond t (backward rows d (forward rows s d)) (cond (eqb (forward rows s d .r) 0) (backward rows d (forward rows s d)) (forward rows s d))) e
+        ap (λ (t : Bool). cond t (backward rows d (forward rows s d))
+        (cond (eqb (forward rows s d .r) 0) (backward rows d (forward rows s d)) (forward rows s d))) e
         ∙ ap (λ (t : Bool). cond x (backward rows d (forward rows s d)) (cond t (backward rows d (forward rows s d)) (forward rows s d))) f
 
     pub walked-one : (l ≡ 0 → ⊥) → (r ≡ 0 → ⊥) → Walked (faceWalk rows s d) q k₀ m q′ k l r low
@@ -236,11 +247,14 @@ module _ (rows s : List ℕ) (d b low₀ : ℕ) (e-b : b ≡ beta rows 3 d) (e-l
         (λ z. choice _ true refl (eq-eqb _ 0 (sym (first .r-is) ∙ z)) ∙ either (eqb (forward rows s d .l) 0))
         o
       where
-        either : (x : Bool) → cond x (backward rows d (forward rows s d)) (cond true (backward rows d (forward rows s d)) (forward rows s d)) ≡ backward rows d (forward rows s d)
+        either : (x : Bool) →
+            cond x (backward rows d (forward rows s d)) (cond true (backward rows d (forward rows s d)) (forward rows s d)) ≡ backward rows d (forward rows s d)
         either true = refl
         either false = refl
 
-    pub walked-two : (l ≡ 0) ⊎ (r ≡ 0) → (bl br : ℕ) → bl ≡ beta rows 0 d → br ≡ beta rows 1 b → (m₂ q₂ : List ℕ) (k₂ l₂ r₂ low₂ : ℕ) → Walked (leg rows 0 1 (darts rows) (record { seen = take k q′; l = bl; r = br; low = low })) q′ k m₂ q₂ k₂ l₂ r₂ low₂ → Walked (faceWalk rows s d) q k₀ m₂ q₂ k₂ l₂ r₂ low₂
+    pub walked-two : (l ≡ 0) ⊎ (r ≡ 0) → (bl br : ℕ) → bl ≡ beta rows 0 d → br ≡ beta rows 1 b → (m₂ q₂ : List ℕ) (k₂ l₂ r₂ low₂ : ℕ) →
+        Walked (leg rows 0 1 (darts rows) (record { seen = take k q′; l = bl; r = br; low = low })) q′ k m₂ q₂ k₂ l₂ r₂ low₂ →
+        Walked (faceWalk rows s d) q k₀ m₂ q₂ k₂ l₂ r₂ low₂
     walked-two o bl br e-l e-r m₂ q₂ k₂ l₂ r₂ low₂ g =
         let f : Walk = forward rows s d in
         let e : leg rows 0 1 (darts rows) (record { seen = take k q′; l = bl; r = br; low = low }) ≡ faceWalk rows s d =

@@ -7,7 +7,7 @@
 --   AvoidLaws    the walk with darts marked that it never meets
 --   FacedLaws    the darts that the list has done with
 --   UnmarkLaws   a queue that has grown, unmarked again
---   SightLaws    what the list learns of a dart
+--   DartLaws     what the list learns of a dart
 --   KeepingLaws  the loop of the list
 --   Examples     worked examples, computed
 pub mod LegLaws
@@ -18,6 +18,6 @@ pub mod RoundLaws
 pub mod AvoidLaws
 pub mod FacedLaws
 pub mod UnmarkLaws
-pub mod SightLaws
+pub mod DartLaws
 pub mod KeepingLaws
 pub mod Examples

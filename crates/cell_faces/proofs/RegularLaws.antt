@@ -1,225 +1,120 @@
 -- Regular faces: the test finds them, and a whole face is regular where one of its darts is.
---   Ring, ring-reach                  a list that is a whole chain
---   regular-round                     a test that passes has gone round, with whatever its turns pass on
 --   regular-sound, regular-complete   the test passes exactly where the face is regular
 --   regular-spread                    what a dart of a regular face reaches by the face's steps is regular too
 --   regular-alone, regular-paired     the two cases of document 01
 --   face-id-least                     there the face identifier is the least dart of the Face orbit
 --   face-null                         the face identifier of the null dart is 0
 -- Assumes nothing.
-use Prim.Native.Nat.{ℕ, zero, suc, _+_, _≤_, _<_}
+use Prim.Native.Nat.{ℕ, zero, suc, _-_, _<_}
 use native.Mathlib.Omega.{arith}
 use native.Mathlib.Decide.{ℕ-discrete}
 use mathlib.Core.Path.{_≡_, refl, sym, ap, _∙_, subst}
 use mathlib.Core.Bool.{Bool, true, false, cond, not, false≢true}
-use mathlib.Core.Logic.{_≢_, _⊎_, inl, inr, ⊎-elim, by-cases}
-use mathlib.Core.List.{List, [], _∷_, List·Memᴰ·head, List·Memᴰ·tail, List·Memᴰ·not-nil, List·Memᴰ·cases-cons, List·Memᴰ·eq-of-singleton, Memᴰ·cast}
-use mathlib.Mathlib.Logic.Relation.{ReflTransGenᴰ·refl, ReflTransGenᴰ·tail, ReflTransGenᴰ·trans, ReflTransGenᴰ·single}
+use mathlib.Core.Logic.{_≢_, ⊎-elim, by-cases}
+use mathlib.Core.List.{List, List·Memᴰ·cases-cons, List·Memᴰ·eq-of-singleton}
+use mathlib.Mathlib.Logic.Relation.{ReflTransGenᴰ·refl, ReflTransGenᴰ·tail}
 use lib.Dec.{eqb, lit<}
-use lib.ListN.{length, length-append}
 use borrow.Author.Tests.{eqb-true, eqb-false, eq-eqb, ne-eqb}
 use Rattle.map_betas.specs.Betas.{beta, darts}
 use Rattle.map_betas.specs.Maps.{WellFormed}
+use Rattle.map_betas.specs.Chains.{far, Chain, first, on, back}
+use Rattle.map_betas.proofs.Chains.{far-zero, chain-trans, chain-round}
 use Rattle.cell_steps.specs.Steps.{image, face}
-use Rattle.cell_steps.specs.Search.{In, Step, Reach}
+use Rattle.cell_steps.specs.Search.{Step, Reach}
 use Rattle.cell_steps.specs.Idents.{ident}
-use Rattle.cell_steps.proofs.OrbitLaws.{Has, closed-reach}
+use Rattle.cell_steps.proofs.ChainLaws.{Enough, enough-starts, enough-on}
 use Rattle.cell_steps.proofs.IdentLaws.{reach-below, reach-real}
-use Rattle.cell_faces.specs.Faces.{Walk, faceId, chain, Regular, regularFrom, regular}
-use Rattle.cell_faces.proofs.LeastLaws.{Round, round-starts, round-turn, round-room, face-least, across-none}
+use Rattle.cell_faces.specs.Faces.{faceId, Regular, regularFrom, regular}
+use Rattle.cell_faces.proofs.LeastLaws.{before-real, across-back, face-least}
 use Rattle.cell_faces.proofs.SoundLaws.{walk-facts}
 
--- ---- a list that is a whole chain, and one that is an arc of it up to x
-
-pub record Ring (rows : List ℕ) (d : ℕ) (s : List ℕ) : Type 0 where
-  pub has : In d s
-  pub closed : (y : ℕ) → In y s → beta rows 1 y ≡ 0 → ⊥
-  pub across : (y : ℕ) → In y s → beta rows 3 (beta rows 1 y) ≡ beta rows 0 (beta rows 3 y)
-  pub next : (y : ℕ) → In y s → In (beta rows 1 y) s
-  pub last : (y : ℕ) → In y s → In (beta rows 0 y) s
-
-record Arc (rows : List ℕ) (d x : ℕ) (s : List ℕ) : Type 0 where
-  has : (x ≡ d) ⊎ In d s
-  closed : (y : ℕ) → In y s → beta rows 1 y ≡ 0 → ⊥
-  across : (y : ℕ) → In y s → beta rows 3 (beta rows 1 y) ≡ beta rows 0 (beta rows 3 y)
-  next : (y : ℕ) → In y s → In (beta rows 1 y) s ⊎ (beta rows 1 y ≡ x)
-  last : (y : ℕ) → In y s → (y ≡ d) ⊎ In (beta rows 0 y) s
-  origin : (x ≡ d) ⊎ In (beta rows 0 x) s
+-- ---- the test
 
 module _ (rows : List ℕ) (w : WellFormed rows) (d : ℕ) where
-  arc-starts : Arc rows d d []
-  arc-starts =
-      record {
-        has = inl refl;
-        closed = λ y m. absurd (List·Memᴰ·not-nil m);
-        across = λ y m. absurd (List·Memᴰ·not-nil m);
-        next = λ y m. absurd (List·Memᴰ·not-nil m);
-        last = λ y m. absurd (List·Memᴰ·not-nil m);
-        origin = inl refl;
-      }
+  -- what the test asks at each dart
+  abbrev Fits : ℕ → Type 0
+  Fits x = (beta rows 1 x ≡ 0 → ⊥) × (beta rows 3 (beta rows 1 x) ≡ beta rows 0 (beta rows 3 x))
 
-  module _ (x : ℕ) (s : List ℕ) (v : Arc rows d x s) (real : beta rows 1 x ≡ 0 → ⊥) (step : beta rows 3 (beta rows 1 x) ≡ beta rows 0 (beta rows 3 x)) where
-    with-d : In d (x ∷ s)
-    with-d = ⊎-elim (λ e. List·Memᴰ·head (sym e)) (λ m. List·Memᴰ·tail m) (v .has)
+  -- a test that passes has gone on from x to d
+  abbrev Tested : ℕ → Type 0
+  Tested x = (m : ℕ) × (far rows 1 (suc m) x ≡ d) × ((t : ℕ) → t < suc m → Fits (far rows 1 t x))
 
-    back-x : beta rows 0 (beta rows 1 x) ≡ x
-    back-x = w .back 1 x (lit< tt) real
-
-    arc-turn : Arc rows d (beta rows 1 x) (x ∷ s)
-    arc-turn =
-        record {
-          has = inr with-d;
-          closed = λ y m. ⊎-elim (λ e. subst (λ (z : ℕ). beta rows 1 z ≡ 0 → ⊥) (sym e) real) (v .closed y) (List·Memᴰ·cases-cons m);
-          across = λ y m.
-              ⊎-elim (λ e. subst (λ (z : ℕ). beta rows 3 (beta rows 1 z) ≡ beta rows 0 (beta rows 3 z)) (sym e) step) (v .across y)
-              (List·Memᴰ·cases-cons m);
-          next = λ y m.
-              ⊎-elim (λ e. inr (ap (beta rows 1) e))
-              (λ i. inl (⊎-elim (λ j. List·Memᴰ·tail j) (λ e. List·Memᴰ·head e) (v .next y i)))
-              (List·Memᴰ·cases-cons m);
-          last = λ y m.
-              ⊎-elim
-              (λ e. ⊎-elim (λ p. inl (e ∙ p)) (λ i. inr (List·Memᴰ·tail (Memᴰ·cast (ap (beta rows 0) e) i))) (v .origin))
-              (λ i. ⊎-elim inl (λ j. inr (List·Memᴰ·tail j)) (v .last y i))
-              (List·Memᴰ·cases-cons m);
-          origin = inr (List·Memᴰ·head back-x);
-        }
-
-    arc-ring : beta rows 1 x ≡ d → Ring rows d (x ∷ s)
-    arc-ring e =
-        record {
-          has = with-d;
-          closed = arc-turn .closed;
-          across = arc-turn .across;
-          next = λ y m. ⊎-elim (λ i. i) (λ p. Memᴰ·cast (p ∙ e) with-d) (arc-turn .next y m);
-          last = λ y m. ⊎-elim (λ p. List·Memᴰ·head (ap (beta rows 0) (p ∙ sym e) ∙ back-x)) (λ i. i) (arc-turn .last y m);
-        }
-
-  -- the test goes round an arc, with whatever its turns pass on
-  module _ (Q : ℕ → ℕ → List ℕ → Type 0) (R : List ℕ → Type 0) (on : (f x : ℕ) (a : List ℕ) → Q (suc f) x a → (beta rows 1 x ≡ 0 → ⊥) → (beta rows 1 x ≡ d → ⊥) → Q f (beta rows 1 x) (x ∷ a)) (end : (f x : ℕ) (a : List ℕ) → Q (suc f) x a → (beta rows 1 x ≡ 0 → ⊥) → beta rows 1 x ≡ d → R (x ∷ a)) where
-    -- a whole chain, of which R holds
-    Found : Type 0
-    Found = (t : List ℕ) × Ring rows d t × R t
-
-    arc-round : (f x : ℕ) (s : List ℕ) → Arc rows d x s → Q f x s → regularFrom rows d f x ≡ true → Found
-    unfolding regularFrom Found
-    arc-round zero x s v q e = absurd (false≢true e)
-    arc-round (suc f) x s v q e =
-        go (eqb (beta rows 1 x) 0) refl (eqb (beta rows 3 (beta rows 1 x)) (beta rows 0 (beta rows 3 x))) refl (eqb (beta rows 1 x) d) refl
-        (arc-round f (beta rows 1 x)) e
-      where
-        go : (a : Bool) → eqb (beta rows 1 x) 0 ≡ a → (b : Bool) → eqb (beta rows 3 (beta rows 1 x)) (beta rows 0 (beta rows 3 x)) ≡ b →
-            (c : Bool) → eqb (beta rows 1 x) d ≡ c →
-            ((s′ : List ℕ) → Arc rows d (beta rows 1 x) s′ → Q f (beta rows 1 x) s′ → regularFrom rows d f (beta rows 1 x) ≡ true → Found) →
-            cond a false (cond (not b) false (cond c true (regularFrom rows d f (beta rows 1 x)))) ≡ true → Found
-        go true ea b eb c ec more t = absurd (false≢true t)
-        go false ea false eb c ec more t = absurd (false≢true t)
-        go false ea true eb true ec more t =
-            let real = eqb-false _ _ ea in
-            let back = eqb-true _ _ ec in (x ∷ s, arc-ring x s v real (eqb-true _ _ eb) back, end f x s q real back)
-        go false ea true eb false ec more t =
-            let real = eqb-false _ _ ea in more (x ∷ s) (arc-turn x s v real (eqb-true _ _ eb)) (on f x s q real (eqb-false _ _ ec)) t
-
-    pub regular-round : Q (darts rows) d [] → regular rows d ≡ true → (t : List ℕ) × Ring rows d t × R t
-    unfolding regular Found
-    regular-round q e = arc-round (darts rows) d [] arc-starts q e
-
-  test-ring : regular rows d ≡ true → (t : List ℕ) × Ring rows d t
-  test-ring e =
-      let r = regular-round (λ f x a. Unit {0}) (λ t. Unit {0}) (λ f x a q u v. tt) (λ f x a q u v. tt) tt e in (r .0, r .1)
-
-  module _ (s : List ℕ) (v : Ring rows d s) where
-    ring-has : (x : ℕ) → In x s → Has rows chain s x
-    unfolding image
-    ring-has x m c i =
-        ⊎-elim
-        (λ e. inr (subst (λ (k : ℕ). In (image rows k x) s) (sym e) (v .next x m)))
-        (λ j. inr (subst (λ (k : ℕ). In (image rows k x) s) (sym (List·Memᴰ·eq-of-singleton j)) (v .last x m)))
-        (List·Memᴰ·cases-cons i)
-
-    pub ring-reach : {x : ℕ} → Reach rows chain d x → In x s
-    ring-reach r = closed-reach rows chain s ring-has (v .has) r
-
-    ring-regular : Regular rows d
-    ring-regular = record { closed = λ x r. v .closed x (ring-reach r); across = λ x r. v .across x (ring-reach r) }
-
-    -- on a whole chain beta 0 leads on as well
-    pub ring-real : {x : ℕ} → Reach rows chain d x → beta rows 0 x ≡ 0 → ⊥
-    ring-real {x} r z = v .closed (beta rows 0 x) (v .last x (ring-reach r)) (ap (beta rows 1) z ∙ w .null 1 (lit< tt))
+  tested : (f x : ℕ) → regularFrom rows d f x ≡ true → Tested x
+  unfolding regularFrom far
+  tested zero x e = absurd (false≢true e)
+  tested (suc f) x e =
+      go (eqb (beta rows 1 x) 0) refl (eqb (beta rows 3 (beta rows 1 x)) (beta rows 0 (beta rows 3 x))) refl (eqb (beta rows 1 x) d) refl
+      (tested f (beta rows 1 x)) e
+    where
+      go : (a : Bool) → eqb (beta rows 1 x) 0 ≡ a → (b : Bool) → eqb (beta rows 3 (beta rows 1 x)) (beta rows 0 (beta rows 3 x)) ≡ b →
+          (c : Bool) → eqb (beta rows 1 x) d ≡ c → (regularFrom rows d f (beta rows 1 x) ≡ true → Tested (beta rows 1 x)) →
+          cond a false (cond (not b) false (cond c true (regularFrom rows d f (beta rows 1 x)))) ≡ true → Tested x
+      go true ea b eb c ec more t = absurd (false≢true t)
+      go false ea false eb c ec more t = absurd (false≢true t)
+      go false ea true eb true ec more t = (0, eqb-true _ _ ec, only)
+        where
+          only : (t : ℕ) → t < 1 → Fits (far rows 1 t x)
+          only zero h = (eqb-false _ _ ea, eqb-true _ _ eb)
+          only (suc t) h = absurd (omega arith)
+      go false ea true eb false ec more t = let r = more t in (suc (r .0), r .1, all (r .0) (r .2))
+        where
+          all : (m : ℕ) → ((t : ℕ) → t < suc m → Fits (far rows 1 t (beta rows 1 x))) → (t : ℕ) → t < suc (suc m) → Fits (far rows 1 t x)
+          all m g zero h = (eqb-false _ _ ea, eqb-true _ _ eb)
+          all m g (suc t) h = g t (omega arith)
 
   pub regular-sound : regular rows d ≡ true → Regular rows d
-  regular-sound e = let r = test-ring e in ring-regular (r .0) (r .1)
+  unfolding regular
+  regular-sound e =
+      let r = tested (darts rows) d e in
+      let real : d ≢ 0 = λ z. r .2 0 (omega arith) .0 (ap (beta rows 1) (far-zero rows 1 d ∙ z) ∙ w .null 1 (lit< tt)) in
+      let fits : (x : ℕ) → Chain rows d x → Fits x =
+      λ x c. let s = chain-round rows w d real (r .0) (r .1) c in subst Fits (sym (s .2)) (r .2 (s .0) (s .1)) in
+      record { closed = λ x c. fits x c .0; across = λ x c. fits x c .1 }
 
   module _ (lt : d < darts rows) (real : d ≡ 0 → ⊥) (v : Regular rows d) where
     -- the test does not use up its turns
-    round-test : (f : ℕ) (k : Walk) → Round rows d k → (In (k .l) (k .seen) → ⊥) → darts rows ≤ length (k .seen) + f → regularFrom rows d f (k .l) ≡ true
+    passes : (f x : ℕ) → Chain rows d x → Enough rows d f x → regularFrom rows d f x ≡ true
     unfolding regularFrom
-    round-test zero k o out h =
-        absurd (omega (arith, round-room rows w d lt real (v .closed) (v .across) k o out))
-    round-test (suc f) k o out h =
-        simp (ne-eqb _ _ (v .closed _ (o .l-chain)), eq-eqb _ _ (v .across _ (o .l-chain)))
-        (by-cases (ℕ-discrete (beta rows 1 (k .l)) d)
-        (λ (e : beta rows 1 (k .l) ≡ d). simp (eq-eqb _ _ e))
-        (λ (e : beta rows 1 (k .l) ≢ d).
-        let o′ = round-turn rows w d lt real (v .closed) (v .across) k o out in
-        simp (ne-eqb _ _ e) (round-test f _ o′ (λ m. e (o′ .once m)) (omega (arith, length-append (k .seen) (k .l ∷ []))))))
+    passes zero x c k = absurd (omega (arith, k .few))
+    passes (suc f) x c k =
+        simp (ne-eqb _ _ (v .closed x c), eq-eqb _ _ (v .across x c))
+        (by-cases (ℕ-discrete (beta rows 1 x) d)
+        (λ (e : beta rows 1 x ≡ d). simp (eq-eqb _ _ e))
+        (λ (o : beta rows 1 x ≢ d).
+        let e : suc f - 1 ≡ f = omega arith in
+        simp (ne-eqb _ _ o)
+        (passes f (beta rows 1 x) (on c (v .closed x c))
+        (subst (λ (g : ℕ). Enough rows d g (beta rows 1 x)) e (enough-on rows d (suc f) x k (beta rows 1 x) refl (v .closed x c) o)))))
 
     pub regular-complete : regular rows d ≡ true
     unfolding regular
-    regular-complete =
-        round-test (darts rows) _ (round-starts rows w d lt real (v .closed) (v .across)) (λ m. List·Memᴰ·not-nil m) (omega arith)
+    regular-complete = passes (darts rows) d first (enough-starts rows w d lt)
 
-    pub back-real : {x : ℕ} → Reach rows chain d x → beta rows 0 x ≡ 0 → ⊥
-    back-real r = let g = test-ring regular-complete in ring-real (g .0) (g .1) r
+    back-real : {x : ℕ} → Chain rows d x → beta rows 0 x ≡ 0 → ⊥
+    back-real c = before-real rows w d lt real (v .closed) c
 
     -- ---- the images by beta 3 are a regular chain
 
     module _ (other : beta rows 3 d ≡ 0 → ⊥) where
       Image : ℕ → Type 0
-      Image y = (z : ℕ) × Reach rows chain d z × (beta rows 3 z ≡ y)
+      Image y = (z : ℕ) × Chain rows d z × (beta rows 3 z ≡ y)
 
-      -- one step back before z on the chain is one step on after its image
-      before : (z : ℕ) → Reach rows chain d z → (beta rows 3 z ≡ 0 → ⊥) → (beta rows 1 (beta rows 3 z) ≡ beta rows 3 (beta rows 0 z)) × (beta rows 3 (beta rows 0 z) ≡ 0 → ⊥)
-      unfolding image
-      before z r y-real =
-          let p : ℕ = beta rows 0 z in
-          let p-real : p ≡ 0 → ⊥ = back-real r in
-          let on : beta rows 1 p ≡ z = w .back 0 z (lit< tt) p-real in
-          let rp : Reach rows chain d p = ReflTransGenᴰ·tail r (record { by = 0; listed = List·Memᴰ·tail (List·Memᴰ·head refl); leads = refl; real = p-real }) in
-          let e : beta rows 3 z ≡ beta rows 0 (beta rows 3 p) = ap (beta rows 3) (sym on) ∙ v .across p rp in
-          let u : beta rows 0 (beta rows 3 p) ≡ 0 → ⊥ = λ q. y-real (e ∙ q) in
-          let f : beta rows 1 (beta rows 0 (beta rows 3 p)) ≡ beta rows 3 p = w .back 0 (beta rows 3 p) (lit< tt) u in
-          (ap (beta rows 1) e ∙ f, λ q. u (ap (beta rows 0) q ∙ w .null 0 (lit< tt)))
+      before : (z : ℕ) → Chain rows d z → (beta rows 3 z ≡ 0 → ⊥) →
+          (beta rows 1 (beta rows 3 z) ≡ beta rows 3 (beta rows 0 z)) × (beta rows 3 (beta rows 0 z) ≡ 0 → ⊥)
+      before = across-back rows w d lt real (v .closed) (v .across)
 
-      imaged : {y : ℕ} → Reach rows chain (beta rows 3 d) y → Image y × (y ≡ 0 → ⊥)
-      unfolding image Image
-      imaged ReflTransGenᴰ·refl = ((d, ReflTransGenᴰ·refl, refl), other)
-      imaged (ReflTransGenᴰ·tail {b = a} {c = b} r t) =
+      imaged : {y : ℕ} → Chain rows (beta rows 3 d) y → Image y × (y ≡ 0 → ⊥)
+      unfolding Image
+      imaged first = ((d, first, refl), other)
+      imaged (on {d = a} r n) =
           let q = imaged r in
-          let z : ℕ = q .0 .0 in
-          let rz : Reach rows chain d z = q .0 .1 in
-          let to : (i : ℕ) → t .by ≡ i → image rows i a ≡ b = λ i e. ap (λ (k : ℕ). image rows k a) (sym e) ∙ t .leads in
-          ⊎-elim
-          (λ e.
-          let p-real : beta rows 0 z ≡ 0 → ⊥ = back-real rz in
-          let k = before z rz (λ x. q .1 (sym (q .0 .2) ∙ x)) in (
-            (
-              beta rows 0 z,
-              ReflTransGenᴰ·tail rz (record { by = 0; listed = List·Memᴰ·tail (List·Memᴰ·head refl); leads = refl; real = p-real }),
-              sym (k .0) ∙ ap (beta rows 1) (q .0 .2) ∙ to 1 e,
-            ),
-            t .real,
-          ))
-          (λ j.
-          let e = List·Memᴰ·eq-of-singleton j in (
-            (
-              beta rows 1 z,
-              ReflTransGenᴰ·tail rz (record { by = 1; listed = List·Memᴰ·head refl; leads = refl; real = v .closed z rz }),
-              v .across z rz ∙ ap (beta rows 0) (q .0 .2) ∙ to 0 e,
-            ),
-            t .real,
-          ))
-          (List·Memᴰ·cases-cons (t .listed))
+          let c : Chain rows d (q .0 .0) = q .0 .1 in
+          let k = before (q .0 .0) c (λ x. q .1 (sym (q .0 .2) ∙ x)) in
+          ((beta rows 0 (q .0 .0), back c (back-real c), sym (k .0) ∙ ap (beta rows 1) (q .0 .2)), n)
+      imaged (back {d = a} r n) =
+          let q = imaged r in
+          let c : Chain rows d (q .0 .0) = q .0 .1 in
+          ((beta rows 1 (q .0 .0), on c (v .closed (q .0 .0) c), v .across (q .0 .0) c ∙ ap (beta rows 0) (q .0 .2)), n)
 
       pub regular-image : Regular rows (beta rows 3 d)
       unfolding Image
@@ -245,19 +140,19 @@ module _ (rows : List ℕ) (w : WellFormed rows) (d : ℕ) where
 
 module _ (rows : List ℕ) (w : WellFormed rows) where
   -- a step of the chain keeps to the chain
-  chain-regular : (a b : ℕ) → Regular rows a → Reach rows chain a b → Regular rows b
+  chain-regular : (a b : ℕ) → Regular rows a → Chain rows a b → Regular rows b
   chain-regular a b v r =
-      record { closed = λ x q. v .closed x (ReflTransGenᴰ·trans r q); across = λ x q. v .across x (ReflTransGenᴰ·trans r q) }
+      record { closed = λ x c. v .closed x (chain-trans r c); across = λ x c. v .across x (chain-trans r c) }
 
   step-regular : (a b : ℕ) → a < darts rows → (a ≡ 0 → ⊥) → Regular rows a → Step rows face a b → Regular rows b
   unfolding image
   step-regular a b lt real v t =
       let to : (i : ℕ) → t .by ≡ i → image rows i a ≡ b = λ i e. ap (λ (k : ℕ). image rows k a) (sym e) ∙ t .leads in
       ⊎-elim
-      (λ e. chain-regular a b v (ReflTransGenᴰ·single (record { by = 1; listed = List·Memᴰ·head refl; leads = to 1 e; real = t .real })))
+      (λ e. subst (Regular rows) (to 1 e) (chain-regular a _ v (on first (λ z. t .real (sym (to 1 e) ∙ z)))))
       (λ j.
       ⊎-elim
-      (λ e. chain-regular a b v (ReflTransGenᴰ·single (record { by = 0; listed = List·Memᴰ·tail (List·Memᴰ·head refl); leads = to 0 e; real = t .real })))
+      (λ e. subst (Regular rows) (to 0 e) (chain-regular a _ v (back first (λ z. t .real (sym (to 0 e) ∙ z)))))
       (λ k.
       let e = List·Memᴰ·eq-of-singleton k in
       subst (Regular rows) (to 3 e) (regular-image rows w a lt real v (λ z. t .real (sym (to 3 e) ∙ z))))
@@ -271,11 +166,15 @@ module _ (rows : List ℕ) (w : WellFormed rows) where
 
   -- ---- document 01's two cases, and what follows
 
-  module _ (d : ℕ) (closed : (x : ℕ) → Reach rows chain d x → beta rows 1 x ≡ 0 → ⊥) where
-    pub regular-alone : ((x : ℕ) → Reach rows chain d x → beta rows 3 x ≡ 0) → Regular rows d
-    regular-alone free = record { closed = closed; across = across-none rows w d closed free }
+  module _ (d : ℕ) (closed : (x : ℕ) → Chain rows d x → beta rows 1 x ≡ 0 → ⊥) where
+    pub regular-alone : ((x : ℕ) → Chain rows d x → beta rows 3 x ≡ 0) → Regular rows d
+    regular-alone free =
+        record {
+          closed = closed;
+          across = λ x c. free (beta rows 1 x) (on c (closed x c)) ∙ sym (ap (beta rows 0) (free x c) ∙ w .null 0 (lit< tt));
+        }
 
-    pub regular-paired : ((x : ℕ) → Reach rows chain d x → (beta rows 3 x ≡ 0 → ⊥) × (beta rows 0 (beta rows 3 x) ≡ beta rows 3 (beta rows 1 x))) →
+    pub regular-paired : ((x : ℕ) → Chain rows d x → (beta rows 3 x ≡ 0 → ⊥) × (beta rows 0 (beta rows 3 x) ≡ beta rows 3 (beta rows 1 x))) →
         Regular rows d
     regular-paired h = record { closed = closed; across = λ x r. sym (h x r .1) }
 

@@ -1,5 +1,5 @@
 -- What the face walk stands on is of the Face orbit.
---   fresh-new, add-new   a dart that is real and not marked is marked
+--   fresh-new            a dart that is real and not marked can be marked
 --   lower-le, lower-at   the least so far is no more than it was, and no more than the dart
 --   leg-low              a leg only lowers it
 --   by-1, by-0, by-3     from a dart of the orbit, or null, a step leads to one
@@ -8,18 +8,17 @@
 use mathlib.Core.Path.{_≡_, refl, sym, ap, _∙_, subst}
 use mathlib.Core.Bool.{Bool, true, false, cond, _||_, not}
 use mathlib.Core.Logic.{_⊎_, inl, inr, ⊎-elim}
-use mathlib.Core.List.{List, [], _∷_, _++_, List·Memᴰ·head, List·Memᴰ·tail}
+use mathlib.Core.List.{List, [], List·Memᴰ·head, List·Memᴰ·tail}
 use mathlib.Mathlib.Logic.Relation.{ReflTransGenᴰ·refl, ReflTransGenᴰ·tail}
-use Prim.Native.Nat.{ℕ, zero, suc, _+_, _-_, _≤_, _<_, min}
+use Prim.Native.Nat.{ℕ, zero, suc, _≤_, _<_, min}
 use native.Mathlib.Nat.{le-refl, le-trans, min-le-left, min-le-right}
 use lib.Dec.{eqb, lit<}
 use borrow.Author.Tests.{eqb-true, eqb-false, ne-eqb}
 use Rattle.map_betas.specs.Betas.{beta, darts}
 use Rattle.map_betas.specs.Maps.{WellFormed}
-use Rattle.cell_steps.specs.Search.{In, mem, add, Reach}
+use Rattle.cell_steps.specs.Search.{In, mem, Reach}
 use Rattle.cell_steps.specs.Steps.{image, face}
 use Rattle.cell_steps.proofs.Lists.{bool, mem-not}
-use Rattle.cell_steps.proofs.SearchLaws.{Added, null, old, new, added}
 use Rattle.cell_steps.proofs.IdentLaws.{min-one}
 use Rattle.cell_faces.specs.Faces.{fresh, lower, Walk, turn, leg, forward, backward, faceWalk}
 
@@ -28,14 +27,6 @@ use Rattle.cell_faces.specs.Faces.{fresh, lower, Walk, turn, leg, forwar
 pub fresh-new : (s : List ℕ) (x : ℕ) → (x ≡ 0 → ⊥) → (In x s → ⊥) → fresh s x ≡ true
 unfolding fresh
 fresh-new s x a b = ap (λ (t : Bool). not (t || mem x s)) (ne-eqb x 0 a) ∙ ap not (mem-not x s b)
-
-pub add-new : (s : List ℕ) (x : ℕ) → (x ≡ 0 → ⊥) → (In x s → ⊥) → add s x ≡ s ++ (x ∷ [])
-add-new s x a b = go (added s x)
-  where
-    go : {m : List ℕ} → Added s x m → m ≡ s ++ (x ∷ [])
-    go (null e) = absurd (a e)
-    go (old i) = absurd (b i)
-    go (new p q) = refl
 
 -- ---- the least so far
 
@@ -84,7 +75,8 @@ pub record Sound (rows : List ℕ) (d : ℕ) (w : Walk) : Type 0 where
 
 module _ (rows : List ℕ) (m : WellFormed rows) (d : ℕ) where
   -- from a dart of the orbit, or null, by one of the face's betas
-  onward : (i : ℕ) → i < 4 → In i face → (x : ℕ) → image rows i x ≡ beta rows i x → (x ≡ 0) ⊎ Reach rows face d x → (beta rows i x ≡ 0) ⊎ Reach rows face d (beta rows i x)
+  onward : (i : ℕ) → i < 4 → In i face → (x : ℕ) → image rows i x ≡ beta rows i x → (x ≡ 0) ⊎ Reach rows face d x →
+      (beta rows i x ≡ 0) ⊎ Reach rows face d (beta rows i x)
   onward i lt s x e h =
       ⊎-elim
       (λ z. inl (ap (beta rows i) z ∙ m .null i lt))
@@ -114,7 +106,8 @@ module _ (rows : List ℕ) (m : WellFormed rows) (d : ℕ) where
       (λ e. subst (Reach rows face d) (sym (e .0)) (⊎-elim (λ z. absurd (e .1 z)) (λ r. r) h))
       (lower-one low x)
 
-  module _ (i j : ℕ) (go-i : (x : ℕ) → (x ≡ 0) ⊎ Reach rows face d x → (beta rows i x ≡ 0) ⊎ Reach rows face d (beta rows i x)) (go-j : (x : ℕ) → (x ≡ 0) ⊎ Reach rows face d x → (beta rows j x ≡ 0) ⊎ Reach rows face d (beta rows j x)) where
+  module _ (i j : ℕ) (go-i : (x : ℕ) → (x ≡ 0) ⊎ Reach rows face d x → (beta rows i x ≡ 0) ⊎ Reach rows face d (beta rows i x))
+      (go-j : (x : ℕ) → (x ≡ 0) ⊎ Reach rows face d x → (beta rows j x ≡ 0) ⊎ Reach rows face d (beta rows j x)) where
     turn-sound : (w : Walk) → Sound rows d w → Sound rows d (turn rows i j w)
     unfolding turn
     turn-sound w s =
@@ -153,7 +146,9 @@ module _ (rows : List ℕ) (m : WellFormed rows) (d : ℕ) where
       second : Reach rows face d (backward rows d (forward rows [] d) .low) × (backward rows d (forward rows [] d) .low ≤ forward rows [] d .low)
       second = (backward-sound (forward rows [] d) forward-sound .on-low, leg-low rows 0 1 (darts rows) _)
 
-      pick : (x y : Bool) → Reach rows face d (cond x (backward rows d (forward rows [] d)) (cond y (backward rows d (forward rows [] d)) (forward rows [] d)) .low) × (cond x (backward rows d (forward rows [] d)) (cond y (backward rows d (forward rows [] d)) (forward rows [] d)) .low ≤ forward rows [] d .low)
+      pick : (x y : Bool) →
+          Reach rows face d (cond x (backward rows d (forward rows [] d)) (cond y (backward rows d (forward rows [] d)) (forward rows [] d)) .low) ×
+          (cond x (backward rows d (forward rows [] d)) (cond y (backward rows d (forward rows [] d)) (forward rows [] d)) .low ≤ forward rows [] d .low)
       pick true y = second
       pick false true = second
       pick false false = (forward-sound .on-low, le-refl _)

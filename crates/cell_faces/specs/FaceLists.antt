@@ -3,7 +3,7 @@
 --   goRound rows d s   s with the darts of d's chain behind it, each with its beta 3 image, by one walk round
 --   Faced rows d k     k holds the darts of whole regular faces: all whose least dart is below d, and no dart that is its own identifier from d on
 --   Apart rows d k     d reaches none of k
---   Asked, Sighted     what the list learns of one dart: by the walk, and in all
+--   WalkedId, DartTested   what the list learns of one dart: by the walk, and in all
 use Prim.Native.Nat.{ℕ, zero, suc, _+_, _<_}
 use mathlib.Core.Path.{_≡_}
 use mathlib.Core.Bool.{Bool, cond}
@@ -39,14 +39,14 @@ pub record Apart (rows : List ℕ) (d : ℕ) (k : List ℕ) : Type 0 where
   pub never : (x : ℕ) → In x k → Reach rows face d x → ⊥
 
 -- the identifier of d, with the first `known` places marked as before
-pub record Asked (rows : List ℕ) (d : ℕ) (queue : List ℕ) (known : ℕ) (marks′ queue′ : List ℕ) (id : ℕ) : Type 0 where
+pub record WalkedId (rows : List ℕ) (d : ℕ) (queue : List ℕ) (known : ℕ) (marks′ queue′ : List ℕ) (id : ℕ) : Type 0 where
   pub id-is : id ≡ faceId rows d
   pub held : Queue marks′ queue′ known
   pub same : take known queue′ ≡ take known queue
   pub rest : drop (darts rows) queue′ ≡ drop (darts rows) queue
 
 -- whether d is its own identifier, and the r darts that are done with then
-pub record Sighted (rows : List ℕ) (d : ℕ) (queue marks′ queue′ : List ℕ) (own : Bool) (r : ℕ) : Type 0 where
+pub record DartTested (rows : List ℕ) (d : ℕ) (queue marks′ queue′ : List ℕ) (own : Bool) (r : ℕ) : Type 0 where
   pub own-is : own ≡ eqb (faceId rows d) d
   pub held : Queue marks′ queue′ r
   pub faced : Faced rows (d + 1) (take r queue′)

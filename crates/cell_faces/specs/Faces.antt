@@ -6,17 +6,17 @@
 --   turn, leg       one turn of a leg, and a leg
 --   forward, backward, faceWalk   the legs of d, with what is marked before
 --   faceId rows d   the face identifier of d
---   chain           the steps of a face's chain
 --   Regular rows d  the chain of d is closed, and each of its beta 1 steps is a beta 0 step between the beta 3 images
 --   regular rows d  the same as a test
 --   Walked          what a walk leaves
 use Prim.Native.Nat.{ℕ, zero, suc, min}
 use mathlib.Core.Path.{_≡_}
 use mathlib.Core.Bool.{Bool, true, false, cond, not, _||_}
-use mathlib.Core.List.{List, [], _∷_}
+use mathlib.Core.List.{List, []}
 use lib.Dec.{eqb}
 use Rattle.map_betas.specs.Betas.{beta, darts}
-use Rattle.cell_steps.specs.Search.{mem, add, Reach}
+use Rattle.map_betas.specs.Chains.{Chain}
+use Rattle.cell_steps.specs.Search.{mem, add}
 use Rattle.cell_steps.specs.Loans.{Grown}
 
 unfoldable pub fresh : List ℕ → ℕ → Bool
@@ -72,15 +72,11 @@ faceWalk rows s d =
 unfoldable pub faceId : List ℕ → ℕ → ℕ
 faceId rows d = faceWalk rows [] d .low
 
--- "all darts reached .. by beta 1 and beta 0"
-abbrev pub chain : List ℕ
-chain = 1 ∷ 0 ∷ []
-
 -- "Where the chain is closed and either none of its darts has a beta 3 image, or all have and each beta 1 step is a beta 0 step between their
 -- images": null images of beta 3 follow each other too, so that one law serves both cases (`proofs/RegularLaws.antt`)
 pub record Regular (rows : List ℕ) (d : ℕ) : Type 0 where
-  pub closed : (x : ℕ) → Reach rows chain d x → beta rows 1 x ≡ 0 → ⊥
-  pub across : (x : ℕ) → Reach rows chain d x → beta rows 3 (beta rows 1 x) ≡ beta rows 0 (beta rows 3 x)
+  pub closed : (x : ℕ) → Chain rows d x → beta rows 1 x ≡ 0 → ⊥
+  pub across : (x : ℕ) → Chain rows d x → beta rows 3 (beta rows 1 x) ≡ beta rows 0 (beta rows 3 x)
 
 -- from x on round to d, with f turns at most
 unfoldable pub regularFrom : List ℕ → ℕ → ℕ → ℕ → Bool

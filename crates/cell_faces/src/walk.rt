@@ -1,7 +1,7 @@
 // The walk of `face_id`: from d and its beta 3 image forward, and backward where that ends on a null dart.
-use cell_search::scratch::clear;
-use cell_search::scratch::wipe_queue;
-use cell_search::search::push;
+use cell_scratch::scratch::clear;
+use cell_scratch::scratch::wipe_queue;
+use cell_scratch::steps::push;
 use map_betas::betas::beta_at;
 ghost use mathlib.Core.Path.{_≡_};
 ghost use Prim.Native.Nat.{_<_, _≤_};
@@ -45,8 +45,11 @@ fn lower(low: u32, x: u32) -> u32
 
 // A leg of the walk: l by beta i and r by beta j, while one of them is new.
 fn leg(rows: &[u32], marks: &mut [u8], queue: &mut [u32], i: u32, j: u32, start: Walker) -> Walker
-    requires { ⌜ Scratch (now rows) (now marks) (now queue) × (i < 4) × (j < 4) × (start .l < darts (now rows)) × (start .r < darts (now rows)) × Queue (now marks) (now queue) (start .k) ⌝ }
-    ensures { λ r. ⌜ Walked (legOf (now (rows .entry)) i j (darts (now (rows .entry))) (record { seen = take (start .k) (now (queue .entry)); l = start .l; r = start .r; low = start .low })) (now (queue .entry)) (start .k) (now (marks .exit)) (now (queue .exit)) (r .k) (r .l) (r .r) (r .low) ⌝ }
+    requires { ⌜ Scratch (now rows) (now marks) (now queue) × (i < 4) × (j < 4) × (start .l < darts (now rows)) × (start .r < darts (now rows))
+        × Queue (now marks) (now queue) (start .k) ⌝ }
+    ensures { λ r. ⌜ Walked (legOf (now (rows .entry)) i j (darts (now (rows .entry)))
+        (record { seen = take (start .k) (now (queue .entry)); l = start .l; r = start .r; low = start .low }))
+        (now (queue .entry)) (start .k) (now (marks .exit)) (now (queue .exit)) (r .k) (r .l) (r .r) (r .low) ⌝ }
 {
     let mut k = start.k;
     let mut l = start.l;
@@ -68,7 +71,8 @@ fn leg(rows: &[u32], marks: &mut [u8], queue: &mut [u32], i: u32, j: u32, start:
 // Both legs of d, with what stands in the queue's first `known` places marked before.
 pub fn walk(rows: &[u32], marks: &mut [u8], queue: &mut [u32], known: usize, d: u32) -> Walker
     requires { ⌜ Scratch (now rows) (now marks) (now queue) × (d < darts (now rows)) × Queue (now marks) (now queue) known ⌝ }
-    ensures { λ r. ⌜ Walked (faceWalk (now (rows .entry)) (take known (now (queue .entry))) d) (now (queue .entry)) known (now (marks .exit)) (now (queue .exit)) (r .k) (r .l) (r .r) (r .low) ⌝ }
+    ensures { λ r. ⌜ Walked (faceWalk (now (rows .entry)) (take known (now (queue .entry))) d) (now (queue .entry)) known
+        (now (marks .exit)) (now (queue .exit)) (r .k) (r .l) (r .r) (r .low) ⌝ }
 {
     let b = beta_at(rows, 3, d);
     let low = lower(d, b);

@@ -22,12 +22,12 @@ use Rattle.cell_steps.proofs.Lists.{at-in}
 use Rattle.cell_steps.proofs.StepLaws.{steps-are}
 use Rattle.cell_steps.proofs.CgalLaws.{Serves, vertex-serves, edge-serves, face-serves, volume-serves}
 use Rattle.cell_steps.proofs.CellLaws.{ident-in, ident-first, one-ident, ident-null}
-use Rattle.cell_joins.specs.CellLists.{Ascending}
-use Rattle.cell_joins.proofs.MemberLaws as members
+use Rattle.cell_lists.specs.CellLists.{Ascending}
+use Rattle.cell_lists.proofs.MemberLaws as members
 use Rattle.cell_faces.specs.Faces.{faceId, Regular}
 use Rattle.cell_faces.proofs.RegularLaws.{face-id-least, face-null}
-use Rattle.cell_names.specs.declared.identifiers.Class.{Class}
-use Rattle.cell_names.specs.declared.identifiers.Class.the-variants.{Vertex, Edge, Face, Volume}
+use Rattle.cell_steps.specs.declared.cells.Class.{Class}
+use Rattle.cell_steps.specs.declared.cells.Class.the-variants.{Vertex, Edge, Face, Volume}
 use Rattle.cell_names.specs.Cells.{identOf, listOf}
 
 -- "Vertex, edge and volume identifiers are the least dart of the orbit"

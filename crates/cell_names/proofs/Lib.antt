@@ -1,7 +1,7 @@
 -- The laws of identifiers and lists.
---   LeftLaws         what the calls leave, case by case
+--   CallLaws         what holds once a guard has passed; the class that a match has found
 --   IdentifierLaws   what identifiers and lists are, for a reader
 --   Examples         worked examples, computed
-pub mod LeftLaws
+pub mod CallLaws
 pub mod IdentifierLaws
 pub mod Examples

@@ -1,15 +1,23 @@
 -- The identifier and the list of each class of cells.
+--   isFace class              whether the Rust takes identifier and list of the class by a walk of its own
 --   identOf class rows d      the identifier of d's cell
 --   listOf class rows flags   the list of the cells
 use Prim.Native.Nat.{ℕ}
+use mathlib.Core.Bool.{Bool, true, false}
 use mathlib.Core.List.{List}
 use Rattle.map_betas.specs.Betas.{darts}
 use Rattle.cell_steps.specs.Steps.{vertex, edge, volume}
 use Rattle.cell_steps.specs.Idents.{ident}
-use Rattle.cell_joins.specs.CellLists.{cellsBy}
+use Rattle.cell_lists.specs.CellLists.{cellsBy}
 use Rattle.cell_faces.specs.Faces.{faceId}
-use Rattle.cell_names.specs.declared.identifiers.Class.{Class}
-use Rattle.cell_names.specs.declared.identifiers.Class.the-variants.{Vertex, Edge, Face, Volume}
+use Rattle.cell_steps.specs.declared.cells.Class.{Class}
+use Rattle.cell_steps.specs.declared.cells.Class.the-variants.{Vertex, Edge, Face, Volume}
+
+abbrev pub isFace : Class → Bool
+isFace Vertex = false
+isFace Edge = false
+isFace Face = true
+isFace Volume = false
 
 -- "Vertex, edge and volume identifiers are the least dart of the orbit"; "`face_id` follows the Rust even where it isn't least"
 abbrev pub identOf : Class → List ℕ → ℕ → ℕ

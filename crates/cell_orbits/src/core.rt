@@ -1,27 +1,40 @@
-// The cores: an orbit as a list, and its least dart with its count. They are lent n marks that are 0, and leave scratch as it was.
-use cell_search::scratch::clear;
-use cell_search::scratch::wipe_queue;
+// The cores: an orbit as a list, and a cell by its class: its least dart and its count. They are lent n marks that are 0, and leave scratch as it was.
+use cell_scratch::scratch::clear;
+use cell_scratch::scratch::wipe_queue;
 use cell_search::search::flood;
-use cell_search::visits::written_out;
 use cell_steps::cells::Cell;
+use cell_steps::cells::Class;
+use cell_steps::policy::OrbitPolicy;
+use cell_steps::policy::policy_of;
+use cell_steps::policy::steps_of;
 ghost use mathlib.Core.Path.{_≡_};
 ghost use Prim.Native.Nat.{_<_, _≤_};
 ghost use lib.ListN.{length, take};
 ghost use Rattle.map_betas.specs.Betas.{darts};
+ghost use Rattle.map_betas.specs.Maps.{WellFormed};
+ghost use Rattle.cell_steps.specs.Steps.{stepsBy, cellSteps};
 ghost use Rattle.cell_steps.specs.Search.{orbit};
-ghost use Rattle.cell_steps.specs.Idents.{least as leastOf, cellOf};
-ghost use Rattle.cell_steps.specs.Loans.{Fit, Zero, Listed};
+ghost use Rattle.cell_steps.specs.Idents.{least as leastOf, ident, cellOf};
+ghost use Rattle.cell_steps.specs.Loans.{Zero, AreSteps, Scratch, Clean, Listed};
 
-// Lists the orbit of d under the steps, and returns how many darts it has.
-pub fn orbit_core(rows: &[u32], steps: &[u8], marks: &mut [u8], output: &mut [u32], d: u32) -> usize
-    requires { ⌜ Fit (now rows) (now steps) (now marks) (now output) × (d < darts (now rows)) × Zero (now marks) ⌝ }
-    ensures { λ r. ⌜ (now (marks .exit) ≡ now (marks .entry)) × Listed (orbit (now (rows .entry)) (now (steps .entry)) d) (now (output .entry)) (now (output .exit)) r ⌝ }
+// Lists the orbit of d under the steps of the policy, and returns how many darts it has.
+pub(crate) fn orbit_core(
+    rows: &[u32],
+    policy: OrbitPolicy,
+    steps: &[u8],
+    marks: &mut [u8],
+    output: &mut [u32],
+    d: u32,
+) -> usize
+    requires { ⌜ Scratch (now rows) (now marks) (now output) × (d < darts (now rows)) × Zero (now marks) × AreSteps (now steps)
+        × (stepsBy policy (now steps) ≡ now steps) ⌝ }
+    ensures { λ r. ⌜ (now (marks .exit) ≡ now (marks .entry))
+        × Listed (orbit (now (rows .entry)) (now (steps .entry)) d) (now (output .entry)) (now (output .exit)) r ⌝ }
 {
     let at = d as usize;
     marks[at] = 1;
     output[0] = d;
-    let written = written_out(steps);
-    let count = flood(rows, written, steps, marks, output, 0, 1);
+    let count = flood(rows, policy, steps, marks, output, 0, 1);
     clear(marks, output, count);
     count
 }
@@ -43,13 +56,33 @@ fn least(list: &[u32], count: usize) -> u32
     m
 }
 
-// The least dart of the orbit of d under the steps, and how many darts it has. Marks and queue are 0 before and after.
-pub fn cell_core(rows: &[u32], steps: &[u8], marks: &mut [u8], queue: &mut [u32], d: u32) -> Cell
-    requires { ⌜ Fit (now rows) (now steps) (now marks) (now queue) × (d < darts (now rows)) × Zero (now marks) × Zero (now queue) ⌝ }
-    ensures { λ r. ⌜ (now (marks .exit) ≡ now (marks .entry)) × (now (queue .exit) ≡ now (queue .entry)) × (r ≡ cellOf (now (rows .entry)) (now (steps .entry)) d) ⌝ }
+// The cell of d of a class: its least dart, and how many darts it has. Marks and queue are 0 before and after.
+pub(crate) fn cell_core(
+    rows: &[u32],
+    class: Class,
+    marks: &mut [u8],
+    queue: &mut [u32],
+    d: u32,
+) -> Cell
+    requires { ⌜ WellFormed (now rows) × (d < darts (now rows)) × Clean (darts (now rows)) (now marks) (now queue) ⌝ }
+    ensures { λ r. ⌜ (now (marks .exit) ≡ now (marks .entry)) × (now (queue .exit) ≡ now (queue .entry)) × (r ≡ cellOf class (now (rows .entry)) d) ⌝ }
 {
-    let count = orbit_core(rows, steps, marks, queue, d);
+    let policy = policy_of(class);
+    let s = steps_of(policy);
+    let codes = s.codes;
+    let k = s.count;
+    let count = orbit_core(rows, policy, &codes[..k], marks, queue, d);
     let low = least(queue, count);
     wipe_queue(queue, count);
     Cell { least: low, count }
+}
+
+// The name of d's cell of a class: its least dart. Marks and queue are 0 before and after.
+pub fn name_core(rows: &[u32], class: Class, marks: &mut [u8], queue: &mut [u32], d: u32) -> u32
+    requires { ⌜ WellFormed (now rows) × (d < darts (now rows)) × Clean (darts (now rows)) (now marks) (now queue) ⌝ }
+    ensures { λ r. ⌜ r ≡ ident (now (rows .entry)) (cellSteps class) d ⌝ }
+    ensures { λ r. ⌜ (now (marks .exit) ≡ now (marks .entry)) × (now (queue .exit) ≡ now (queue .entry)) ⌝ }
+{
+    let c = cell_core(rows, class, marks, queue, d);
+    c.least
 }

@@ -1,6 +1,6 @@
 // The calls: an orbit by its policy, and by a list of betas. Ports `orbit_tx` of dim3/orbits.rs.
 use crate::core::orbit_core;
-use cell_search::scratch::wipe_marks;
+use cell_scratch::scratch::wipe_marks;
 use cell_steps::policy::OrbitPolicy;
 use cell_steps::policy::steps_of;
 use map_betas::error::Answer;
@@ -12,18 +12,29 @@ ghost use mathlib.Core.Path.{_≡_};
 ghost use Prim.Native.Nat.{_/_, _<_, _≤_};
 ghost use lib.ListN.{length};
 ghost use Rattle.map_betas.specs.Betas.{darts};
+ghost use Rattle.map_betas.specs.Answers.{outcome};
 ghost use Rattle.map_betas.specs.Maps.{WellFormed};
+ghost use Rattle.cell_steps.specs.Steps.{stepsBy};
 ghost use Rattle.cell_steps.specs.Loans.{AreSteps};
-ghost use Rattle.cell_steps.specs.Calls.{left, orbitDone, orbitCall, customTest, customCall};
+ghost use Rattle.cell_steps.specs.Calls.{orbitDone, orbitCall, customTest, customCall};
 
-// Lists the orbit of d under the steps: marks may hold anything, and are longer than n or not.
-fn list_orbit(rows: &[u32], steps: &[u8], marks: &mut [u8], output: &mut [u32], d: u32) -> Answer
-    requires { ⌜ WellFormed (now rows) × AreSteps (now steps) × (darts (now rows) ≤ length (now marks)) × (darts (now rows) ≤ length (now output)) × (d < darts (now rows)) ⌝ }
-    ensures { λ a. ⌜ left a (now (marks .exit)) (now (output .exit)) ≡ orbitDone (now (rows .entry)) (now (marks .entry)) (now (output .entry)) (now (steps .entry)) d ⌝ }
+// Lists the orbit of d under the steps of the policy: marks may hold anything, and are longer than n or not.
+fn list_orbit(
+    rows: &[u32],
+    policy: OrbitPolicy,
+    steps: &[u8],
+    marks: &mut [u8],
+    output: &mut [u32],
+    d: u32,
+) -> Answer
+    requires { ⌜ WellFormed (now rows) × AreSteps (now steps) × (darts (now rows) ≤ length (now marks)) × (darts (now rows) ≤ length (now output))
+        × (d < darts (now rows)) × (stepsBy policy (now steps) ≡ now steps) ⌝ }
+    ensures { λ a. ⌜ outcome a (now (marks .exit), now (output .exit))
+        ≡ orbitDone (now (rows .entry)) (now (marks .entry)) (now (output .entry)) (now (steps .entry)) d ⌝ }
 {
     let n = rows.len() / 4;
     wipe_marks(marks, n);
-    let count = orbit_core(rows, steps, &mut marks[..n], output, d);
+    let count = orbit_core(rows, policy, steps, &mut marks[..n], output, d);
     Answer::Done(0, count)
 }
 
@@ -35,7 +46,7 @@ pub fn orbit(
     policy: OrbitPolicy,
     d: u32,
 ) -> Answer
-    ensures { λ a. ⌜ left a (now (marks .exit)) (now (output .exit)) ≡ orbitCall (now (rows .entry)) (now (marks .entry)) (now (output .entry)) policy d ⌝ }
+    ensures { λ a. ⌜ outcome a (now (marks .exit), now (output .exit)) ≡ orbitCall (now (rows .entry)) (now (marks .entry)) (now (output .entry)) policy d ⌝ }
 {
     let g = guard(rows, orbit_loans(marks.len(), output.len()), 0, d, d);
     if !is_done(g) {
@@ -44,7 +55,7 @@ pub fn orbit(
     let s = steps_of(policy);
     let codes = s.codes;
     let count = s.count;
-    list_orbit(rows, &codes[..count], marks, output, d)
+    list_orbit(rows, policy, &codes[..count], marks, output, d)
 }
 
 // Refuses the first value that is no beta.
@@ -70,7 +81,8 @@ pub fn orbit_custom(
     betas: &[u8],
     d: u32,
 ) -> Answer
-    ensures { λ a. ⌜ left a (now (marks .exit)) (now (output .exit)) ≡ customCall (now (rows .entry)) (now (marks .entry)) (now (output .entry)) (now (betas .entry)) d ⌝ }
+    ensures { λ a. ⌜ outcome a (now (marks .exit), now (output .exit))
+        ≡ customCall (now (rows .entry)) (now (marks .entry)) (now (output .entry)) (now (betas .entry)) d ⌝ }
 {
     let g = guard(rows, orbit_loans(marks.len(), output.len()), 0, d, d);
     if !is_done(g) {
@@ -80,5 +92,5 @@ pub fn orbit_custom(
     if !is_done(t) {
         return t;
     }
-    list_orbit(rows, betas, marks, output, d)
+    list_orbit(rows, OrbitPolicy::Custom, betas, marks, output, d)
 }

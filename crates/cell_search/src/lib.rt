@@ -1,4 +1,2 @@
-// The search, breadth first: scratch, visits and the flood.
-pub mod scratch;
+// The search, breadth first: the flood.
 pub mod search;
-pub mod visits;

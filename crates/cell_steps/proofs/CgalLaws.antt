@@ -5,6 +5,7 @@
 --   reach-orbit, orbit-reach, reach-exact   then they reach exactly the orbit
 --   symmetric                   and they lead back
 --   vertex-serves .. volume-serves   the four cells
+--   class-symmetric    the steps of each class lead back
 -- Assumes nothing.
 use mathlib.Core.Path.{_≡_, refl, sym, ap, _∙_}
 use mathlib.Core.Bool.{Bool, true, false, cond}
@@ -18,7 +19,9 @@ use Rattle.map_betas.specs.Betas.{beta, opp}
 use Rattle.map_betas.specs.Maps.{WellFormed}
 use Rattle.cell_steps.specs.Cgal.{composed, Orbit, self, forth, back, vertexΦ, edgeΦ, faceΦ, volumeΦ}
 use Rattle.cell_steps.specs.Search.{In, Step, Reach, Symmetric}
-use Rattle.cell_steps.specs.Steps.{step, image, vertex, edge, face, volume}
+use Rattle.cell_steps.specs.declared.cells.Class.{Class}
+use Rattle.cell_steps.specs.declared.cells.Class.the-variants as class
+use Rattle.cell_steps.specs.Steps.{cellSteps, step, image, vertex, edge, face, volume}
 use Rattle.cell_steps.proofs.StepLaws.{Each, each-at}
 
 -- a step's betas, and their inverse
@@ -186,3 +189,9 @@ volume-serves =
       there = ((1, at0, refl), ((2, at2, refl), tt));
       again = ((0, at1, refl), ((2, at2, refl), tt));
     }
+
+pub class-symmetric : (rows : List ℕ) → WellFormed rows → (c : Class) → Symmetric rows (cellSteps c)
+class-symmetric rows w class.Vertex = symmetric rows w vertex vertexΦ vertex-serves
+class-symmetric rows w class.Edge = symmetric rows w edge edgeΦ edge-serves
+class-symmetric rows w class.Face = symmetric rows w face faceΦ face-serves
+class-symmetric rows w class.Volume = symmetric rows w volume volumeΦ volume-serves

@@ -5,11 +5,12 @@ use mathlib.Core.List.{List, [], _∷_}
 use Rattle.map_betas.specs.declared.error.Answer.the-variants.{Done, Refused}
 use Rattle.map_betas.specs.declared.error.Refusal.the-variants.{ShortLoan, BadDart, BadBeta}
 use Rattle.map_betas.specs.Maps.{badSize, breaks, breachAt, firstBreach, mapTest}
+use Rattle.map_betas.specs.Answers.{outcome}
 use Rattle.map_betas.specs.Guards.{loanTest, noDart, guardOf}
 use Rattle.cell_steps.specs.declared.policy.OrbitPolicy.the-variants.{Vertex, Face, FaceLinear}
 use Rattle.cell_steps.specs.Steps.{image, vertex, face}
 use Rattle.cell_steps.specs.Search.{mem, add, visit, search, orbit}
-use Rattle.cell_steps.specs.Calls.{left, customTest, orbitCall, customCall}
+use Rattle.cell_steps.specs.Calls.{customTest, orbitCall, customCall}
 
 -- the closed triangle 1, 2, 3
 triangle : List ℕ
@@ -24,28 +25,29 @@ unfolding triangle image mem add visit search orbit
 vertex-of-2 = refl
 
 -- the place behind the count and the fifth mark stay
-face-call : orbitCall triangle (7 ∷ 7 ∷ 7 ∷ 7 ∷ 7 ∷ []) (9 ∷ 9 ∷ 9 ∷ 9 ∷ []) Face 2 ≡ left (Done 0 3) (0 ∷ 0 ∷ 0 ∷ 0 ∷ 7 ∷ []) (2 ∷ 3 ∷ 1 ∷ 9 ∷ [])
+face-call : orbitCall triangle (7 ∷ 7 ∷ 7 ∷ 7 ∷ 7 ∷ []) (9 ∷ 9 ∷ 9 ∷ 9 ∷ []) Face 2 ≡ outcome (Done 0 3) (0 ∷ 0 ∷ 0 ∷ 0 ∷ 7 ∷ [], 2 ∷ 3 ∷ 1 ∷ 9 ∷ [])
 unfolding triangle image mem add visit search orbit badSize breaks breachAt firstBreach mapTest loanTest noDart guardOf orbitCall
 face-call = refl
 
-null-call : orbitCall triangle (7 ∷ 7 ∷ 7 ∷ 7 ∷ []) (9 ∷ 9 ∷ 9 ∷ 9 ∷ []) Vertex 0 ≡ left (Done 0 1) (0 ∷ 0 ∷ 0 ∷ 0 ∷ []) (0 ∷ 9 ∷ 9 ∷ 9 ∷ [])
+null-call : orbitCall triangle (7 ∷ 7 ∷ 7 ∷ 7 ∷ []) (9 ∷ 9 ∷ 9 ∷ 9 ∷ []) Vertex 0 ≡ outcome (Done 0 1) (0 ∷ 0 ∷ 0 ∷ 0 ∷ [], 0 ∷ 9 ∷ 9 ∷ 9 ∷ [])
 unfolding triangle image mem add visit search orbit badSize breaks breachAt firstBreach mapTest loanTest noDart guardOf orbitCall
 null-call = refl
 
 -- marks are tested before the output, and both before the dart
-short-call : orbitCall triangle (7 ∷ 7 ∷ 7 ∷ []) [] FaceLinear 9 ≡ left (Refused (ShortLoan 1)) (7 ∷ 7 ∷ 7 ∷ []) []
+short-call : orbitCall triangle (7 ∷ 7 ∷ 7 ∷ []) [] FaceLinear 9 ≡ outcome (Refused (ShortLoan 1)) (7 ∷ 7 ∷ 7 ∷ [], [])
 unfolding triangle badSize loanTest guardOf orbitCall
 short-call = refl
 
-dart-call : customCall triangle (7 ∷ 7 ∷ 7 ∷ 7 ∷ []) (9 ∷ 9 ∷ 9 ∷ 9 ∷ []) (4 ∷ []) 4 ≡ left (Refused (BadDart 1)) (7 ∷ 7 ∷ 7 ∷ 7 ∷ []) (9 ∷ 9 ∷ 9 ∷ 9 ∷ [])
+dart-call : customCall triangle (7 ∷ 7 ∷ 7 ∷ 7 ∷ []) (9 ∷ 9 ∷ 9 ∷ 9 ∷ []) (4 ∷ []) 4 ≡ outcome (Refused (BadDart 1)) (7 ∷ 7 ∷ 7 ∷ 7 ∷ [], 9 ∷ 9 ∷ 9 ∷ 9 ∷ [])
 unfolding triangle badSize breaks breachAt firstBreach mapTest loanTest noDart guardOf customTest customCall
 dart-call = refl
 
-beta-call : customCall triangle (7 ∷ 7 ∷ 7 ∷ 7 ∷ []) (9 ∷ 9 ∷ 9 ∷ 9 ∷ []) (1 ∷ 5 ∷ 4 ∷ []) 1 ≡ left (Refused (BadBeta 5)) (7 ∷ 7 ∷ 7 ∷ 7 ∷ []) (9 ∷ 9 ∷ 9 ∷ 9 ∷ [])
+beta-call : customCall triangle (7 ∷ 7 ∷ 7 ∷ 7 ∷ []) (9 ∷ 9 ∷ 9 ∷ 9 ∷ []) (1 ∷ 5 ∷ 4 ∷ []) 1
+    ≡ outcome (Refused (BadBeta 5)) (7 ∷ 7 ∷ 7 ∷ 7 ∷ [], 9 ∷ 9 ∷ 9 ∷ 9 ∷ [])
 unfolding triangle badSize breaks breachAt firstBreach mapTest loanTest noDart guardOf customTest customCall
 beta-call = refl
 
 -- "Custom: the listed betas in order, possibly none."
-none-call : customCall triangle (7 ∷ 7 ∷ 7 ∷ 7 ∷ []) (9 ∷ 9 ∷ 9 ∷ 9 ∷ []) [] 1 ≡ left (Done 0 1) (0 ∷ 0 ∷ 0 ∷ 0 ∷ []) (1 ∷ 9 ∷ 9 ∷ 9 ∷ [])
+none-call : customCall triangle (7 ∷ 7 ∷ 7 ∷ 7 ∷ []) (9 ∷ 9 ∷ 9 ∷ 9 ∷ []) [] 1 ≡ outcome (Done 0 1) (0 ∷ 0 ∷ 0 ∷ 0 ∷ [], 1 ∷ 9 ∷ 9 ∷ 9 ∷ [])
 unfolding triangle image mem add visit search orbit badSize breaks breachAt firstBreach mapTest loanTest noDart guardOf customTest customCall
 none-call = refl

@@ -19,7 +19,9 @@ use lib.ListN.{length, getD, take, drop, drop-of-length-le}
 use lib.Seq.{length-take-le, drop-cons, getD-take}
 use borrow.Author.Tests.{leb-true, leb-false}
 use Rattle.map_betas.specs.Betas.{darts}
+use Rattle.cell_steps.specs.declared.cells.Class.{Class}
 use Rattle.cell_steps.specs.declared.cells.Cell.{Cell}
+use Rattle.cell_steps.specs.Steps.{cellSteps}
 use Rattle.cell_steps.specs.Idents.{leastFrom, least, ident, cellOf}
 use Rattle.cell_steps.specs.Search.{In, orbit, Reach, Bounded, Symmetric}
 use Rattle.cell_steps.proofs.Lists.{bool}
@@ -142,7 +144,10 @@ module _ (list : List ℕ) (count : ℕ) (w : count ≤ length list) where
       ap (leastFrom m) (sym (drop-of-length-le (take count list) e)) ∙ v .left
 
 -- the two numbers that the core finds are the cell
-pub cell-is : (rows steps : List ℕ) (d low k : ℕ) → low ≡ least (orbit rows steps d) → k ≡ length (orbit rows steps d) →
-    _≡_ {A = Cell} (record { least = low; count = k }) (cellOf rows steps d)
+pub cell-is : (class : Class) (rows steps : List ℕ) (d low k : ℕ) → steps ≡ cellSteps class → low ≡ least (orbit rows steps d) →
+    k ≡ length (orbit rows steps d) → _≡_ {A = Cell} (record { least = low; count = k }) (cellOf class rows d)
 unfolding ident
-cell-is rows steps d low k e f = λ t. record { least = e t; count = f t }
+cell-is class rows steps d low k s e f =
+    let e′ = e ∙ ap (λ (l : List ℕ). least (orbit rows l d)) s in
+    let f′ = f ∙ ap (λ (l : List ℕ). length (orbit rows l d)) s in
+    λ t. record { least = e′ t; count = f′ t }

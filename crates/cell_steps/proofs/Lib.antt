@@ -1,5 +1,6 @@
 -- The laws of orbits, each file over the ones before it.
 --   Lists        membership, no repeats, pigeonhole
+--   ChainLaws    within n steps a chain comes to null or round, each dart once
 --   StepLaws     steps
 --   SearchLaws   the search
 --   OrbitLaws    what an orbit's list is, for every list of steps
@@ -13,6 +14,7 @@
 --   CellLaws     what orbits are, for a reader
 --   Examples     worked examples, computed
 pub mod Lists
+pub mod ChainLaws
 pub mod StepLaws
 pub mod SearchLaws
 pub mod OrbitLaws

@@ -4,7 +4,7 @@
 --   image-below        an image is a dart
 --   orbit-norep, orbit-starts, orbit-below   no repeats, begins with d, darts only
 --   orbit-sound, orbit-complete, orbit-exact   it holds exactly the darts that the steps reach
---   orbit-room, orbit-some   its length
+--   orbit-some               its length
 -- Assumes nothing.
 use mathlib.Core.Path.{_≡_, refl, sym, _∙_, subst}
 use mathlib.Core.Bool.{Bool, true, false, cond}
@@ -21,7 +21,8 @@ use Rattle.map_betas.specs.Betas.{darts}
 use Rattle.cell_steps.specs.Search.{In, NoRep, visit, search, orbit, Reach, Bounded}
 use Rattle.cell_steps.specs.Steps.{image}
 use Rattle.cell_steps.proofs.Lists.{in-at, at-in, pigeonhole}
-use Rattle.cell_steps.proofs.SearchLaws.{Ext, ext-refl, ext-trans, ext-in, ext-at, ext-length, Good, Passes, Ended, search-inv, visit-ext, visit-has, visit-good}
+use Rattle.cell_steps.proofs.SearchLaws.{Ext, ext-refl, ext-trans, ext-in, ext-at, ext-length, Good}
+use Rattle.cell_steps.proofs.SearchLaws.{Passes, Ended, search-inv, visit-ext, visit-has, visit-good}
 
 -- the images of d are null or listed
 abbrev pub Has : List ℕ → List ℕ → List ℕ → ℕ → Type 0
@@ -64,7 +65,8 @@ module _ (rows steps : List ℕ) (P : ℕ → Type 0) (pass : Passes rows steps 
       }
 
   -- a search with visits enough ends with all of its list visited, since the list is no longer than n
-  pub finished : (n : ℕ) → ((x : ℕ) → P x → x < n) → (f k : ℕ) (l : List ℕ) → n ≤ k + f → State rows steps P l₀ k l → Finished rows steps P l₀ (search rows steps f k l)
+  pub finished : (n : ℕ) → ((x : ℕ) → P x → x < n) → (f k : ℕ) (l : List ℕ) → n ≤ k + f → State rows steps P l₀ k l →
+      Finished rows steps P l₀ (search rows steps f k l)
   finished n below f k l₁ w s =
       let l : List ℕ = search rows steps f k l₁ in
       let r : Ended rows steps (State rows steps P l₀) f k l = search-inv rows steps (State rows steps P l₀) state-step f k l₁ s in
@@ -126,9 +128,6 @@ module _ (rows steps : List ℕ) (b : Bounded rows) (d : ℕ) (h : d < darts row
 
   pub orbit-exact : (x : ℕ) → In x (orbit rows steps d) ↔ Reach rows steps d x
   orbit-exact x = (orbit-sound x, orbit-complete)
-
-  pub orbit-room : length (orbit rows steps d) ≤ darts rows
-  orbit-room = pigeonhole (darts rows) (orbit rows steps d) orbit-norep orbit-below
 
   pub orbit-some : 0 < length (orbit rows steps d)
   orbit-some = ext-length orbit-starts

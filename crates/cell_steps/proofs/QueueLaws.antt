@@ -167,5 +167,6 @@ take-below list count n i w b h =
     let j : i < length (take count list) = omega (arith, length-take-le count list w) in
     subst (λ (x : ℕ). x < n) (getD-take count list i 0 h) (b _ (in-at (take count list) i j))
 
-pub cleared-step : (list m₀ m : List ℕ) (i : ℕ) → i < length list → getD list i 0 < length m → Cleared (take i list) m₀ m → Cleared (take (i + 1) list) m₀ (set m (getD list i 0) 0)
+pub cleared-step : (list m₀ m : List ℕ) (i : ℕ) → i < length list → getD list i 0 < length m → Cleared (take i list) m₀ m →
+    Cleared (take (i + 1) list) m₀ (set m (getD list i 0) 0)
 cleared-step list m₀ m i w h c = rw (add-one, take-suc list i 0 w) (cleared-more (take i list) m₀ m (getD list i 0) h c)

@@ -5,16 +5,19 @@
 --   wiped-lent                     the first part lent on, and given back as it was
 --   zero-split                     zeros put where there were zeros
 --   scratch-same                   scratch fits as long as its lengths stay
---   scratch-fit, fit-scratch       scratch fits any steps
+--   clean-scratch                  scratch that is 0 fits
+--   wiped-clean                    the first parts of wiped marks and of a wiped queue are 0
 -- Assumes nothing.
 use Prim.Native.Nat.{ℕ, zero, suc, _≤_}
-use native.Mathlib.Nat.{not-suc-le-zero, le-of-suc-le-suc}
+use native.Mathlib.Nat.{not-suc-le-zero, le-of-suc-le-suc, le-of-eq}
 use native.Mathlib.Omega.{arith}
 use mathlib.Core.Path.{_≡_, refl, sym, ap, _∙_}
 use mathlib.Core.List.{List, [], _∷_, _++_}
 use lib.ListN.{length, getD, take, drop, replicate, length-replicate}
 use lib.Seq.{take-at, drop-at}
-use Rattle.cell_steps.specs.Loans.{Zero, AreSteps, Scratch, Fit}
+use Rattle.map_betas.specs.Betas.{darts}
+use Rattle.map_betas.specs.Maps.{WellFormed}
+use Rattle.cell_steps.specs.Loans.{Zero, Scratch, Clean}
 use Rattle.cell_steps.specs.Calls.{wiped}
 
 pub zero-replicate : (n : ℕ) → Zero (replicate n 0)
@@ -56,8 +59,14 @@ pub scratch-same : (rows marks queue marks′ queue′ : List ℕ) → Scratch r
 scratch-same rows marks queue marks′ queue′ f m o =
     record { formed = f .formed; marks-n = m ∙ f .marks-n; queue-n = omega (arith, f .queue-n) }
 
-pub scratch-fit : {rows steps marks queue : List ℕ} → Scratch rows marks queue → AreSteps steps → Fit rows steps marks queue
-scratch-fit s a = record { formed = s .formed; marks-n = s .marks-n; out-n = s .queue-n; are-steps = a }
+pub clean-scratch : (rows marks queue : List ℕ) → WellFormed rows → Clean (darts rows) marks queue → Scratch rows marks queue
+clean-scratch rows marks queue w c = record { formed = w; marks-n = c .marks-n; queue-n = le-of-eq (sym (c .queue-n)) }
 
-pub fit-scratch : {rows steps marks queue : List ℕ} → Fit rows steps marks queue → Scratch rows marks queue
-fit-scratch f = record { formed = f .formed; marks-n = f .marks-n; queue-n = f .out-n }
+pub wiped-clean : (n : ℕ) (marks queue m q : List ℕ) → m ≡ wiped n marks → q ≡ wiped n queue → Clean n (take n m) (take n q)
+wiped-clean n marks queue m q em eq =
+    record {
+      marks-n = wiped-n n marks m em;
+      queue-n = wiped-n n queue q eq;
+      marks-0 = wiped-zero n marks m em;
+      queue-0 = wiped-zero n queue q eq;
+    }

@@ -5,12 +5,13 @@
 --   search-more, -none, -done   the step laws
 --   visit-ext, -has, -good  what a visit does
 --   search-inv              what holds at the start and after each visit holds at the end
---   search-ext              the list goes on
 -- Assumes nothing.
 use mathlib.Core.Path.{_≡_, refl, sym, ap, _∙_, subst}
 use mathlib.Core.Bool.{Bool, true, false, cond, _||_}
 use mathlib.Core.Logic.{_⊎_, inl, inr, ⊎-elim}
-use mathlib.Core.List.{List, [], _∷_, _++_, append-assoc, append-nil, List·Memᴰ, List·Memᴰ·head, List·Memᴰ·tail, List·Memᴰ·not-nil, Memᴰ·append-left, Memᴰ·append-right, List·Memᴰ·append-cases, List·Memᴰ·eq-of-singleton, List·Memᴰ·cases-cons}
+use mathlib.Core.List.{List, [], _∷_, _++_, append-assoc, append-nil, List·Memᴰ, List·Memᴰ·head}
+use mathlib.Core.List.{List·Memᴰ·tail, List·Memᴰ·not-nil, Memᴰ·append-left, Memᴰ·append-right}
+use mathlib.Core.List.{List·Memᴰ·append-cases, List·Memᴰ·eq-of-singleton, List·Memᴰ·cases-cons}
 use Prim.Native.Nat.{ℕ, zero, suc, _+_, _-_, _≤_, _<_}
 use native.Mathlib.Omega.{arith}
 use lib.Dec.{eqb, ltb}
@@ -117,7 +118,8 @@ module _ (rows : List ℕ) (d : ℕ) where
       (visit-has ss (add l (image rows t d)) s)
       (List·Memᴰ·cases-cons m)
 
-  pub visit-good : (P : ℕ → Type 0) (ss l : List ℕ) → Good P l → ((s : ℕ) → In s ss → (image rows s d ≡ 0 → ⊥) → P (image rows s d)) → Good P (visit rows ss d l)
+  pub visit-good : (P : ℕ → Type 0) (ss l : List ℕ) → Good P l → ((s : ℕ) → In s ss → (image rows s d ≡ 0 → ⊥) → P (image rows s d)) →
+      Good P (visit rows ss d l)
   unfolding visit
   visit-good P [] l g p = g
   visit-good P (s ∷ ss) l g p =
@@ -138,7 +140,8 @@ module _ (rows steps : List ℕ) where
     pub end : (length m ≤ at) ⊎ (at ≡ k + f)
 
   -- what holds at the start and after each visit holds at the end
-  pub search-inv : (I : ℕ → List ℕ → Type 0) → ((k : ℕ) (l : List ℕ) → I k l → k < length l → I (k + 1) (visit rows steps (getD l k 0) l)) → (f k : ℕ) (l : List ℕ) → I k l → Ended I f k (search rows steps f k l)
+  pub search-inv : (I : ℕ → List ℕ → Type 0) → ((k : ℕ) (l : List ℕ) → I k l → k < length l → I (k + 1) (visit rows steps (getD l k 0) l)) →
+      (f k : ℕ) (l : List ℕ) → I k l → Ended I f k (search rows steps f k l)
   search-inv I step zero k l h = subst (Ended I 0 k) (sym (search-none rows steps k l)) (record { at = k; inv = h; end = inr (omega arith) })
   search-inv I step (suc f) k l h =
       ⊎-elim
@@ -151,7 +154,3 @@ module _ (rows steps : List ℕ) where
       let t′ = ltb-false k (length l) t in
       subst (Ended I (suc f) k) (sym (search-done rows steps (suc f) k l t′)) (record { at = k; inv = h; end = inl t′ }))
       (bool (ltb k (length l)))
-
-  pub search-ext : (f k : ℕ) (l : List ℕ) → Ext l (search rows steps f k l)
-  search-ext f k l =
-      search-inv (λ (j : ℕ) (m : List ℕ). Ext l m) (λ j m e h. ext-trans e (visit-ext rows (getD m j 0) steps m)) f k l (ext-refl l) .inv

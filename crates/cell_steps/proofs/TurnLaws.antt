@@ -3,7 +3,6 @@
 --   Visiting, visiting-..  the loop of `visit`
 --   Flooding, flooding-.., dart-below, count-n   the loop of `flood`
 --   seeded, flooded        an orbit's start and end
---   fit-same               rows and loans fit as long as the lengths stay
 --   listed-take, -room, -drop   what a caller of the core learns
 -- Assumes nothing.
 use mathlib.Core.Path.{_≡_, refl, sym, ap, _∙_, subst}
@@ -15,7 +14,7 @@ use native.Mathlib.Omega.{arith}
 use lib.ListN.{length, getD, take, drop, set, take-append-drop, length-append}
 use lib.Seq.{drop-cons, drop-drop, drop-length, drop-set-lt, getD-take, length-take-le, take-suc-set, take-at, drop-at}
 use Rattle.map_betas.specs.Betas.{darts}
-use Rattle.cell_steps.specs.Loans.{Queue, Grown, Fit, Listed, Zero}
+use Rattle.cell_steps.specs.Loans.{Queue, Grown, Listed, Zero}
 use Rattle.cell_steps.specs.Search.{add, visit, search, orbit}
 use Rattle.cell_steps.specs.Steps.{image}
 use Rattle.cell_steps.proofs.Lists.{in-at}
@@ -42,11 +41,14 @@ module _ (rows steps : List ℕ) (d : ℕ) (marks₀ out₀ : List ℕ) (count :
   visiting-starts q =
       record { upto = omega arith; marks-n = refl; out-n = refl; left = refl; back = refl; more = le-refl count; queue = q }
 
-  visit-one : (j : ℕ) (l : List ℕ) → j < length steps → visit rows (drop j steps) d l ≡ visit rows (drop (j + 1) steps) d (add l (image rows (getD steps j 0) d))
+  visit-one : (j : ℕ) (l : List ℕ) → j < length steps → visit rows (drop j steps) d l
+      ≡ visit rows (drop (j + 1) steps) d (add l (image rows (getD steps j 0) d))
   unfolding visit
   visit-one j l h = rw (add-one, drop-cons steps j 0)
 
-  pub visiting-turn : (marks out : List ℕ) (k j x : ℕ) (marks′ out′ : List ℕ) (r : ℕ) → Visiting rows steps d marks₀ out₀ count marks out k j → j < length steps → x ≡ image rows (getD steps j 0) d → length marks′ ≡ length marks → length out′ ≡ length out → Grown out k (add (take k out) x) marks′ out′ r → Visiting rows steps d marks₀ out₀ count marks′ out′ r (j + 1)
+  pub visiting-turn : (marks out : List ℕ) (k j x : ℕ) (marks′ out′ : List ℕ) (r : ℕ) → Visiting rows steps d marks₀ out₀ count marks out k j →
+      j < length steps → x ≡ image rows (getD steps j 0) d → length marks′ ≡ length marks → length out′ ≡ length out →
+      Grown out k (add (take k out) x) marks′ out′ r → Visiting rows steps d marks₀ out₀ count marks′ out′ r (j + 1)
   visiting-turn marks out k j x marks′ out′ r v h e m o g =
       record {
         upto = omega arith;
@@ -61,7 +63,8 @@ module _ (rows steps : List ℕ) (d : ℕ) (marks₀ out₀ : List ℕ) (count :
         queue = g .queue;
       }
 
-  pub visiting-ends : (marks out : List ℕ) (k j : ℕ) → Visiting rows steps d marks₀ out₀ count marks out k j → length steps ≤ j → Grown out₀ count (visit rows steps d (take count out₀)) marks out k
+  pub visiting-ends : (marks out : List ℕ) (k j : ℕ) → Visiting rows steps d marks₀ out₀ count marks out k j → length steps ≤ j →
+      Grown out₀ count (visit rows steps d (take count out₀)) marks out k
   unfolding visit
   visiting-ends marks out k j v h = record { front = ends; back = v .back; more = v .more; queue = v .queue }
     where
@@ -99,7 +102,8 @@ module _ (rows steps marks₀ out₀ : List ℕ) (from₀ count₀ : ℕ) (n-is 
         let lt : getD (take count out) k 0 < darts rows = omega (arith, v .queue .below _ (in-at (take count out) k i), v .marks-n, n-is) in
         subst (λ (x : ℕ). x < darts rows) (getD-take count out k 0 h) lt
 
-    pub flooding-turn : (marks′ out′ : List ℕ) (r : ℕ) → k < count → length marks′ ≡ length marks → length out′ ≡ length out → Grown out count (visit rows steps (getD out k 0) (take count out)) marks′ out′ r → Flooding rows steps marks₀ out₀ from₀ count₀ marks′ out′ (k + 1) r
+    pub flooding-turn : (marks′ out′ : List ℕ) (r : ℕ) → k < count → length marks′ ≡ length marks → length out′ ≡ length out →
+        Grown out count (visit rows steps (getD out k 0) (take count out)) marks′ out′ r → Flooding rows steps marks₀ out₀ from₀ count₀ marks′ out′ (k + 1) r
     flooding-turn marks′ out′ r h m o g =
         let i : k < length (take count out) = omega (arith, queue-length) in
         let e : darts rows - k ≡ suc (darts rows - (k + 1)) = omega (arith, count-n) in
@@ -147,15 +151,6 @@ flooded rows steps d out marks′ out′ r w g =
           sym (take-append-drop r out′)
           ∙ ap (λ (t : List ℕ). t ++ drop r out′) f
           ∙ ap (λ (t : List ℕ). l ++ t) (g .back ∙ drop-set-lt r out 0 d (g .more) ∙ ap (λ (k : ℕ). drop k out) c);
-    }
-
-pub fit-same : (rows steps marks out marks′ out′ : List ℕ) → Fit rows steps marks out → length marks′ ≡ length marks → length out′ ≡ length out → Fit rows steps marks′ out′
-fit-same rows steps marks out marks′ out′ f m o =
-    record {
-      formed = f .formed;
-      marks-n = m ∙ f .marks-n;
-      out-n = omega (arith, f .out-n);
-      are-steps = f .are-steps;
     }
 
 -- ---- what a caller of `orbit` learns

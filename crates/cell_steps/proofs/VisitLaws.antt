@@ -2,31 +2,26 @@
 --   asked        what a step asks for, where j steps of a visit are done
 --   taken        a step more
 --   inner-room, image-room   room for images that are read before they are put into the queue
---   Alike, alike-..   the loop that compares two lists of steps
 --   by-list      a visit by the steps that a list is known to be
 -- Assumes nothing.
 use mathlib.Core.Path.{_≡_, refl, sym, ap, _∙_, subst}
-use mathlib.Core.Logic.{⊎-elim}
 use mathlib.Core.List.{List}
 use Prim.Native.Nat.{ℕ, _+_, _*_, _≤_, _<_}
 use native.Mathlib.Omega.{arith}
-use lib.Dec.{eqb}
 use lib.ListN.{length, getD, take}
-use lib.Seq.{ext-getD}
-use borrow.Author.Tests.{eqb-true, eqb-false}
 use Rattle.map_betas.specs.Betas.{beta, darts}
 use Rattle.map_betas.specs.Maps.{WellFormed}
-use Rattle.cell_steps.specs.declared.policy.Written.{Written}
-use Rattle.cell_steps.specs.Visits.{stepsBy}
+use Rattle.cell_steps.specs.declared.policy.OrbitPolicy.{OrbitPolicy}
 use Rattle.cell_steps.specs.Loans.{AreSteps, Scratch, Queue, Grown}
 use Rattle.cell_steps.specs.Search.{add, visit}
-use Rattle.cell_steps.specs.Steps.{image, IsStep}
-use Rattle.cell_steps.proofs.Lists.{bool}
+use Rattle.cell_steps.specs.Steps.{image, IsStep, stepsBy}
 use Rattle.cell_steps.proofs.OrbitLaws.{image-below}
 use Rattle.cell_steps.proofs.TurnLaws.{Visiting, visiting-turn}
 
-module _ {rows steps : List ℕ} {d : ℕ} {marks₀ out₀ : List ℕ} {count : ℕ} {marks out : List ℕ} {k : ℕ} (j : ℕ) (v : Visiting rows steps d marks₀ out₀ count marks out k j) (h : j < length steps) where
-  pub asked : Scratch rows marks₀ out₀ → AreSteps steps → d < darts rows → Scratch rows marks out × Queue marks out k × IsStep (getD steps j 0) × (d < darts rows)
+module _ {rows steps : List ℕ} {d : ℕ} {marks₀ out₀ : List ℕ} {count : ℕ} {marks out : List ℕ} {k : ℕ} (j : ℕ)
+    (v : Visiting rows steps d marks₀ out₀ count marks out k j) (h : j < length steps) where
+  pub asked : Scratch rows marks₀ out₀ → AreSteps steps → d < darts rows → Scratch rows marks out × Queue marks out k × IsStep (getD steps j 0)
+      × (d < darts rows)
   asked s a b = (
     record { formed = s .formed; marks-n = v .marks-n ∙ s .marks-n; queue-n = omega (arith, s .queue-n, v .out-n) },
     v .queue,
@@ -34,7 +29,8 @@ module _ {rows steps : List ℕ} {d : ℕ} {marks₀ out₀ : List ℕ} {count :
     b,
   )
 
-  pub taken : {marks′ out′ : List ℕ} {r : ℕ} → length marks′ ≡ length marks → length out′ ≡ length out → Grown out k (add (take k out) (image rows (getD steps j 0) d)) marks′ out′ r → Visiting rows steps d marks₀ out₀ count marks′ out′ r (j + 1)
+  pub taken : {marks′ out′ : List ℕ} {r : ℕ} → length marks′ ≡ length marks → length out′ ≡ length out →
+      Grown out k (add (take k out) (image rows (getD steps j 0) d)) marks′ out′ r → Visiting rows steps d marks₀ out₀ count marks′ out′ r (j + 1)
   taken m o g = visiting-turn rows steps d marks₀ out₀ count marks out k j _ _ _ _ v h refl m o g
 
 -- ---- images that are read before they are put into the queue
@@ -46,37 +42,16 @@ inner-room {rows} w i h j d x e =
     omega (arith, w .sized .whole)
 
 -- an image has a mark, and the queue has room for every mark
-pub image-room : {rows marks out : List ℕ} → Scratch rows marks out → (m o : ℕ) → m ≡ length marks → o ≡ length out → (c d x : ℕ) → x ≡ image rows c d → (x < m) × (m ≤ o)
+pub image-room : {rows marks out : List ℕ} → Scratch rows marks out → (m o : ℕ) → m ≡ length marks → o ≡ length out → (c d x : ℕ) → x ≡ image rows c d →
+    (x < m) × (m ≤ o)
 image-room {rows} s m o em eo c d x e =
     let b : x < darts rows = rw e (image-below rows (s .formed .below) c d) in
     (omega (arith, s .marks-n), omega (arith, s .marks-n, s .queue-n))
 
--- ---- the loop of `same`: the first j places are equal
-
-pub record Alike (a b : List ℕ) (j : ℕ) : Type 0 where
-  pub long : length a ≡ length b
-  pub upto : j ≤ length a
-  pub each : (i : ℕ) → i < j → getD a i 0 ≡ getD b i 0
-
-module _ (a b : List ℕ) where
-  pub alike-starts : length a ≡ length b → Alike a b 0
-  alike-starts e = record { long = e; upto = omega arith; each = λ i h. absurd (omega arith) }
-
-  pub alike-turn : (j : ℕ) → Alike a b j → j < length a → getD a j 0 ≡ getD b j 0 → Alike a b (j + 1)
-  alike-turn j l h e =
-      record {
-        long = l .long;
-        upto = omega arith;
-        each = λ i w.
-            ⊎-elim (λ t. subst (λ (x : ℕ). getD a x 0 ≡ getD b x 0) (sym (eqb-true i j t)) e) (λ t. let n = eqb-false i j t in l .each i (omega (arith, n)))
-            (bool (eqb i j));
-      }
-
-  pub alike-ends : (j : ℕ) → Alike a b j → length a ≤ j → a ≡ b
-  alike-ends j l h = ext-getD 0 a b (l .long) (λ i w. l .each i (omega arith))
-
 -- ---- a visit by the steps that a list is known to be
 
-pub by-list : (rows : List ℕ) (d : ℕ) (out : List ℕ) (count : ℕ) (steps : List ℕ) (w v : Written) {marks′ out′ : List ℕ} {r : ℕ} → w ≡ v → stepsBy w steps ≡ steps → Grown out count (visit rows (stepsBy v steps) d (take count out)) marks′ out′ r → Grown out count (visit rows steps d (take count out)) marks′ out′ r
+pub by-list : (rows : List ℕ) (d : ℕ) (out : List ℕ) (count : ℕ) (steps : List ℕ) (w v : OrbitPolicy) {marks′ out′ : List ℕ} {r : ℕ} → w ≡ v →
+    stepsBy w steps ≡ steps → Grown out count (visit rows (stepsBy v steps) d (take count out)) marks′ out′ r →
+    Grown out count (visit rows steps d (take count out)) marks′ out′ r
 by-list rows d out count steps w v {marks′} {out′} {r} t e g =
-    subst (λ (s : List ℕ). Grown out count (visit rows s d (take count out)) marks′ out′ r) (sym (ap (λ (x : Written). stepsBy x steps) t) ∙ e) g
+    subst (λ (s : List ℕ). Grown out count (visit rows s d (take count out)) marks′ out′ r) (sym (ap (λ (x : OrbitPolicy). stepsBy x steps) t) ∙ e) g

@@ -1,5 +1,4 @@
 -- What an orbit call answers, and what it leaves of its loans.
---   Left              an answer, the marks and the output
 --   wiped n l         l with its first n places 0
 --   written l out     out with l in its first places
 --   orbitDone         an orbit call that is not refused
@@ -14,19 +13,11 @@ use Rattle.map_betas.specs.declared.error.Answer.{Answer}
 use Rattle.map_betas.specs.declared.error.Answer.the-variants.{Done, Refused}
 use Rattle.map_betas.specs.declared.error.Refusal.the-variants.{BadBeta}
 use Rattle.map_betas.specs.Betas.{darts}
-use Rattle.map_betas.specs.Answers.{pass, isDone, andThen}
+use Rattle.map_betas.specs.Answers.{pass, andThen, Outcome, outcome, behind}
 use Rattle.map_betas.specs.Guards.{orbitLoans, guardOf}
 use Rattle.cell_steps.specs.declared.policy.OrbitPolicy.{OrbitPolicy}
 use Rattle.cell_steps.specs.Steps.{stepsOf}
 use Rattle.cell_steps.specs.Search.{orbit}
-
-pub record Left : Type 0 where
-  pub answer : Answer
-  pub marks : List ℕ
-  pub output : List ℕ
-
-abbrev pub left : Answer → List ℕ → List ℕ → Left
-left a marks output = record { answer = a; marks = marks; output = output }
 
 -- "its first n places are 0 and the rest unchanged"
 abbrev pub wiped : ℕ → List ℕ → List ℕ
@@ -37,9 +28,9 @@ abbrev pub written : List ℕ → List ℕ → List ℕ
 written l out = l ++ drop (length l) out
 
 -- the count is the orbit's own length
-abbrev pub orbitDone : List ℕ → List ℕ → List ℕ → List ℕ → ℕ → Left
+abbrev pub orbitDone : List ℕ → List ℕ → List ℕ → List ℕ → ℕ → Outcome (List ℕ × List ℕ)
 orbitDone rows marks output steps d =
-    left (Done 0 (length (orbit rows steps d))) (wiped (darts rows) marks) (written (orbit rows steps d) output)
+    outcome (Done 0 (length (orbit rows steps d))) (wiped (darts rows) marks, written (orbit rows steps d) output)
 
 -- "beta number above 3, .. first in a Custom list"
 unfoldable pub customTest : List ℕ → Answer
@@ -48,18 +39,14 @@ customTest (b ∷ bs) =
     let more = customTest bs in
     cond (ltb 3 b) (Refused (BadBeta b)) more
 
--- "After any refusal .. output [is] unchanged. Scratch: unchanged after 1 to 5"
-abbrev pub behind : Answer → List ℕ → List ℕ → Left → Left
-behind g marks output o = cond (isDone g) o (left g marks output)
-
 abbrev pub orbitGuard : List ℕ → List ℕ → List ℕ → ℕ → Answer
 orbitGuard rows marks output d = guardOf rows (orbitLoans (length marks) (length output)) 0 d d
 
-unfoldable pub orbitCall : List ℕ → List ℕ → List ℕ → OrbitPolicy → ℕ → Left
+unfoldable pub orbitCall : List ℕ → List ℕ → List ℕ → OrbitPolicy → ℕ → Outcome (List ℕ × List ℕ)
 orbitCall rows marks output policy d =
-    behind (orbitGuard rows marks output d) marks output (orbitDone rows marks output (stepsOf policy) d)
+    behind (orbitGuard rows marks output d) (marks, output) (orbitDone rows marks output (stepsOf policy) d)
 
 -- "Custom: the listed betas in order, possibly none."
-unfoldable pub customCall : List ℕ → List ℕ → List ℕ → List ℕ → ℕ → Left
+unfoldable pub customCall : List ℕ → List ℕ → List ℕ → List ℕ → ℕ → Outcome (List ℕ × List ℕ)
 customCall rows marks output betas d =
-    behind (andThen (orbitGuard rows marks output d) (customTest betas)) marks output (orbitDone rows marks output betas d)
+    behind (andThen (orbitGuard rows marks output d) (customTest betas)) (marks, output) (orbitDone rows marks output betas d)

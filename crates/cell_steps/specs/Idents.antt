@@ -2,11 +2,13 @@
 --   leastFrom x l       the least of x and the list l
 --   least l             the least of a list; 0 of none
 --   ident rows steps d  the least dart of the orbit of d: its cell's identifier
---   cellOf rows steps d the identifier and the number of darts, as the core returns them
+--   cellOf class rows d the identifier and the number of darts of d's cell, as the core returns them
 use Prim.Native.Nat.{ℕ, min}
 use mathlib.Core.List.{List, [], _∷_}
 use lib.ListN.{length}
+use Rattle.cell_steps.specs.declared.cells.Class.{Class}
 use Rattle.cell_steps.specs.declared.cells.Cell.{Cell}
+use Rattle.cell_steps.specs.Steps.{cellSteps}
 use Rattle.cell_steps.specs.Search.{orbit}
 
 unfoldable pub leastFrom : ℕ → List ℕ → ℕ
@@ -22,5 +24,5 @@ least (x ∷ l) = leastFrom x l
 unfoldable pub ident : List ℕ → List ℕ → ℕ → ℕ
 ident rows steps d = least (orbit rows steps d)
 
-abbrev pub cellOf : List ℕ → List ℕ → ℕ → Cell
-cellOf rows steps d = record { least = ident rows steps d; count = length (orbit rows steps d) }
+abbrev pub cellOf : Class → List ℕ → ℕ → Cell
+cellOf class rows d = record { least = ident rows (cellSteps class) d; count = length (orbit rows (cellSteps class) d) }

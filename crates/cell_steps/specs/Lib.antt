@@ -4,12 +4,10 @@
 --   Cgal     the orbit and the cells of the CGAL manual
 --   Idents   the least dart of an orbit, and how many darts it has
 --   Loans    what holds of the scratch and of the output that the cores are lent
---   Visits   the lists of steps whose visit is written out
 --   Calls    what a call answers, and what it leaves of its loans
 pub mod Steps
 pub mod Search
 pub mod Cgal
 pub mod Idents
 pub mod Loans
-pub mod Visits
 pub mod Calls

@@ -2,7 +2,7 @@
 --   Zero l           every place is 0
 --   AreSteps steps   every place is the number of a step
 --   Scratch          rows, marks and queue fit together
---   Fit              and the steps with them
+--   Clean            marks and queue of n places, all 0
 --   Queue            the first places of a list are different darts, and the marks say which
 --   Grown            a queue has grown to hold a given list
 --   Cleared          the marks of a list are 0 again
@@ -29,11 +29,12 @@ pub record Scratch (rows marks queue : List ℕ) : Type 0 where
   pub marks-n : length marks ≡ darts rows
   pub queue-n : darts rows ≤ length queue
 
-pub record Fit (rows steps marks out : List ℕ) : Type 0 where
-  pub formed : WellFormed rows
-  pub marks-n : length marks ≡ darts rows
-  pub out-n : darts rows ≤ length out
-  pub are-steps : AreSteps steps
+-- what the cores of identifiers and sews are lent, and give back so
+pub record Clean (n : ℕ) (marks queue : List ℕ) : Type 0 where
+  pub marks-n : length marks ≡ n
+  pub queue-n : length queue ≡ n
+  pub marks-0 : Zero marks
+  pub queue-0 : Zero queue
 
 abbrev pub flag : Bool → ℕ
 flag true = 1

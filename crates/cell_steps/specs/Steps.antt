@@ -4,13 +4,20 @@
 --   IsStep c         c is the number of a step
 --   vertex .. volumeLinear   the steps of the policies, in the order of the search
 --   stepsOf p        the steps of the policy p
+--   codesOf p        those steps in the first of six places, and their number, as the code has them
+--   stepsBy p steps  the steps that a search by p goes by: its own, or the list beside it
+--   policyOf c, cellSteps c   the policy of a class of cells, and its steps
 use Prim.Native.Nat.{ℕ, _+_, _*_, _/_, _%_, _<_}
-use mathlib.Core.List.{List, [], _∷_}
+use mathlib.Core.List.{List, [], _∷_, _++_}
 use mathlib.Core.Bool.{cond}
 use lib.Dec.{ltb}
+use lib.ListN.{length, take, replicate}
 use Rattle.map_betas.specs.Betas.{beta}
 use Rattle.cell_steps.specs.declared.policy.OrbitPolicy.{OrbitPolicy}
-use Rattle.cell_steps.specs.declared.policy.OrbitPolicy.the-variants.{Vertex, VertexLinear, Edge, Face, FaceLinear, Volume, VolumeLinear}
+use Rattle.cell_steps.specs.declared.policy.OrbitPolicy.the-variants.{Vertex, VertexLinear, Edge, Face, FaceLinear, Volume, VolumeLinear, Custom}
+use Rattle.cell_steps.specs.declared.policy.Steps.{Steps}
+use Rattle.cell_steps.specs.declared.cells.Class.{Class}
+use Rattle.cell_steps.specs.declared.cells.Class.the-variants as class
 
 -- "b1b2 (inner beta last)"; a step by one beta is that beta's own number, so that a Custom list of betas is its own list of steps
 abbrev pub step : ℕ → ℕ → ℕ
@@ -58,3 +65,30 @@ stepsOf Face = face
 stepsOf FaceLinear = faceLinear
 stepsOf Volume = volume
 stepsOf VolumeLinear = volumeLinear
+stepsOf Custom = []
+
+abbrev pub codesOf : OrbitPolicy → Steps
+codesOf p = record { codes = take 6 (stepsOf p ++ replicate 6 0); count = length (stepsOf p) }
+
+-- "Custom: the listed betas in order, possibly none."
+abbrev pub stepsBy : OrbitPolicy → List ℕ → List ℕ
+stepsBy Vertex steps = vertex
+stepsBy VertexLinear steps = vertexLinear
+stepsBy Edge steps = edge
+stepsBy Face steps = face
+stepsBy FaceLinear steps = faceLinear
+stepsBy Volume steps = volume
+stepsBy VolumeLinear steps = volumeLinear
+stepsBy Custom steps = steps
+
+abbrev pub policyOf : Class → OrbitPolicy
+policyOf class.Vertex = Vertex
+policyOf class.Edge = Edge
+policyOf class.Face = Face
+policyOf class.Volume = Volume
+
+abbrev pub cellSteps : Class → List ℕ
+cellSteps class.Vertex = vertex
+cellSteps class.Edge = edge
+cellSteps class.Face = face
+cellSteps class.Volume = volume

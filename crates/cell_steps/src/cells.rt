@@ -1,4 +1,12 @@
-// What is said of a cell.
+// The classes of cells, and what is said of a cell.
+
+// The cells of a 3-map: 0-cells, 1-cells, 2-cells and 3-cells.
+pub enum Class {
+    Vertex,
+    Edge,
+    Face,
+    Volume,
+}
 
 // A cell: its least dart and how many darts it has.
 pub struct Cell {

@@ -46,7 +46,7 @@ module _ (bytes : List ℕ) (n at last : ℕ) where
         unfolding recordGood
         record-third h = simp (lt-ltb last (recordDart bytes at) a, lt-ltb (recordDart bytes at) n b, x, h)
 
-  pub record-sound : recordGood bytes n at last ≡ true → (last < recordDart bytes at) × Sound bytes n at
+  record-sound : recordGood bytes n at last ≡ true → (last < recordDart bytes at) × Sound bytes n at
   unfolding recordGood
   record-sound t =
       let a = and-true (ltb last (recordDart bytes at)) _ t in
@@ -62,7 +62,7 @@ module _ (bytes : List ℕ) (n at last : ℕ) where
       three x y z (suc (suc zero)) h = z
       three x y z (suc (suc (suc j))) h = absurd (omega arith)
 
-  pub sound-record : last < recordDart bytes at → Sound bytes n at → recordGood bytes n at last ≡ true
+  sound-record : last < recordDart bytes at → Sound bytes n at → recordGood bytes n at last ≡ true
   sound-record a s =
       sym (record-third a (s .below) (s .finite 0 (omega arith)) (s .finite 1 (omega arith))) ∙ s .finite 2 (omega arith)
 

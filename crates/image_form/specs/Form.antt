@@ -7,7 +7,7 @@
 --   flagAt bytes n d           the flag of dart d
 --   recordAt n k               where vertex record k starts
 --   recordDart, recordCoordinate   the dart of the record at a place, and its coordinate 0, 1 or 2
---   Header, Flags, Sound, Vertices, IsImage   the rules as laws; the crate `image` has that its reader accepts exactly where they hold
+--   Header, Flags, Sound, Vertices, IsImage   the rules as laws; the crate `image_reader` has that its reader accepts exactly where they hold
 use Prim.Native.Nat.{ℕ, _+_, _*_, _<_, _≤_}
 use mathlib.Core.Path.{_≡_}
 use mathlib.Core.List.{List}

@@ -16,7 +16,8 @@ use Rattle.map_betas.specs.declared.error.Answer.{Answer}
 use Rattle.map_betas.specs.declared.error.Answer.the-variants.{Refused}
 use Rattle.map_betas.specs.declared.error.Refusal.the-variants.{BadImage}
 use Rattle.map_betas.specs.Answers.{pass, andThen}
-use Rattle.image_form.specs.Form.{form1, rowOffset, flagOffset, vertexOffset, totalBytes, headerWord, dartsOf, verticesOf, flagAt, recordDart, recordCoordinate}
+use Rattle.image_form.specs.Form.{form1, rowOffset, flagOffset, vertexOffset, totalBytes}
+use Rattle.image_form.specs.Form.{headerWord, dartsOf, verticesOf, flagAt, recordDart, recordCoordinate}
 
 unfoldable pub unless : Bool → ℕ → Answer → Answer
 unless good k more = cond good more (Refused (BadImage k))

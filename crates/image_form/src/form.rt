@@ -4,7 +4,7 @@ ghost use Prim.Native.Nat.{_<_, _≤_};
 ghost use Rattle.image_form.specs.Form.{form1, flagOffset, vertexOffset, totalBytes};
 
 // The number of the form: word 0.
-pub const FORM: u32 = 1;
+pub(crate) const FORM: u32 = 1;
 
 // Where n, the number of darts, stands: word 2.
 pub const DARTS_AT: usize = 8;
@@ -16,10 +16,10 @@ pub const VERTICES_AT: usize = 20;
 pub const ROW_OFFSET: u32 = 28;
 
 // The bytes of a dart's images.
-pub const ROW_BYTES: u32 = 16;
+const ROW_BYTES: u32 = 16;
 
 // The bytes of a vertex record.
-pub const RECORD_BYTES: u32 = 28;
+const RECORD_BYTES: u32 = 28;
 
 // Where the flags start.
 pub fn flag_offset(n: u32) -> u32
@@ -38,7 +38,7 @@ pub fn vertex_offset(n: u32) -> u32
 }
 
 // Where the vertex records end, and the image with them.
-pub fn total_bytes(n: u32, v: u32) -> u32
+pub(crate) fn total_bytes(n: u32, v: u32) -> u32
     requires { ⌜ (n ≤ 1048576) × (v < n) ⌝ }
     ensures { λ r. ⌜ r ≡ totalBytes form1 n v ⌝ }
 {

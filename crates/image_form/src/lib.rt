@@ -1,5 +1,4 @@
-// The stored image, form 1: where its blocks stand, and the tests of each.
+// The stored image, form 1: where its blocks stand, and the tests of its header, flags and vertex records.
 pub mod blocks;
 pub mod form;
 pub mod header;
-pub mod map;

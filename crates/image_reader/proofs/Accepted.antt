@@ -60,7 +60,7 @@ row-room n rows = go (ltb rows (4 * n)) refl
     go true e t = absurd (true≢false (sym t))
     go false e t = ltb-false rows (4 * n) e
 
-pub loans-done : (n : ℕ) (loans : Loans) (rows : ℕ) → isDone (loansTest n loans rows) ≡ true → Lent n loans × (4 * n ≤ rows)
+loans-done : (n : ℕ) (loans : Loans) (rows : ℕ) → isDone (loansTest n loans rows) ≡ true → Lent n loans × (4 * n ≤ rows)
 unfolding loansTest
 loans-done n loans rows t =
     (lent n loans (first-done (loanTest n loans) _ t), row-room n rows (then-done (loanTest n loans) _ t))

@@ -21,7 +21,7 @@ use Rattle.image_words.specs.Lists.{listed}
 use Rattle.image_words.specs.Words.{word32, word64, coordinateAt}
 use Rattle.image_form.specs.Tests.{unless, startTest, layoutTest, bitsOnly, flagsTest, recordGood, recordsGood, verticesTest}
 use Rattle.image_reader.specs.Tests.{loansTest, blocksTest, imageTest}
-use Rattle.image_reader.specs.Content.{putRecord, putRecords, slotsOf}
+use Rattle.image_fill.specs.Content.{putRecord, putRecords, slotsOf}
 use Rattle.image_reader.specs.Reads.{Read, left, wrote, readWithin, readImage}
 
 -- a word below 256
@@ -65,13 +65,15 @@ answer bytes = read bytes .answer
 triangle-read : read triangle ≡
     left (Done 0 4) (0 ∷ 0 ∷ 0 ∷ 0 ∷ 9 ∷ []) (0 ∷ 0 ∷ 0 ∷ 0 ∷ 9 ∷ []) (replicate 12 plus0 ++ (one ∷ []))
     (0 ∷ 0 ∷ 0 ∷ 0 ∷ 3 ∷ 2 ∷ 0 ∷ 0 ∷ 1 ∷ 3 ∷ 0 ∷ 0 ∷ 2 ∷ 1 ∷ 0 ∷ 0 ∷ 9 ∷ 9 ∷ [])
-unfolding readWithin wrote slotsOf putRecord putRecords imageTest blocksTest loansTest verticesTest recordsGood recordGood flagsTest bitsOnly layoutTest startTest unless loanTest mapTest firstBreach breachAt breaks word32 word64 coordinateAt listed ofBits
+unfolding readWithin wrote slotsOf putRecord putRecords imageTest blocksTest loansTest verticesTest recordsGood recordGood flagsTest bitsOnly layoutTest
+    startTest unless loanTest mapTest firstBreach breachAt breaks word32 word64 coordinateAt listed ofBits
 triangle-read = refl
 
 pair-read : read pair ≡
     left (Done 0 2) (0 ∷ 1 ∷ replicate 3 9) (0 ∷ 1 ∷ replicate 3 9) (plus0 ∷ plus0 ∷ plus0 ∷ one ∷ minus0 ∷ two ∷ replicate 7 one)
     (replicate 8 0 ++ replicate 10 9)
-unfolding readWithin wrote slotsOf putRecord putRecords imageTest blocksTest loansTest verticesTest recordsGood recordGood flagsTest bitsOnly layoutTest startTest unless loanTest mapTest firstBreach breachAt breaks word32 word64 coordinateAt listed ofBits
+unfolding readWithin wrote slotsOf putRecord putRecords imageTest blocksTest loansTest verticesTest recordsGood recordGood flagsTest bitsOnly layoutTest
+    startTest unless loanTest mapTest firstBreach breachAt breaks word32 word64 coordinateAt listed ofBits
 pair-read = refl
 
 -- what is wrong, and the refusal
@@ -100,7 +102,8 @@ refusals : map answer
     ∷ Refused (BadImage 3) ∷ Refused (BadImage 4) ∷ Refused (BadImage 5) ∷ Refused (BadImage 5) ∷ Refused (BadImage 6) ∷ Refused (BadImage 7)
     ∷ Refused (BadImage 7) ∷ Refused (BadImage 8) ∷ Refused (BadImage 8) ∷ Refused (BadImage 8) ∷ Done 0 2 ∷ Refused (BadImage 8)
     ∷ Refused (NotAMap 0 2) ∷ []
-unfolding readWithin wrote slotsOf putRecord putRecords imageTest blocksTest loansTest verticesTest recordsGood recordGood flagsTest bitsOnly layoutTest startTest unless loanTest mapTest firstBreach breachAt breaks word32 word64 coordinateAt listed ofBits
+unfolding readWithin wrote slotsOf putRecord putRecords imageTest blocksTest loansTest verticesTest recordsGood recordGood flagsTest bitsOnly layoutTest
+    startTest unless loanTest mapTest firstBreach breachAt breaks word32 word64 coordinateAt listed ofBits
 refusals = refl
 
 -- the loans, one place too short each
@@ -108,5 +111,6 @@ short : (readImage triangle (replicate 3 9) [] [] [] .answer ≡ Refused (ShortL
     × (readImage triangle (replicate 4 9) (replicate 3 9) [] [] .answer ≡ Refused (ShortLoan 5))
     × (readImage triangle (replicate 4 9) (replicate 4 9) (replicate 11 one) [] .answer ≡ Refused (ShortLoan 6))
     × (readImage triangle (replicate 4 9) (replicate 4 9) (replicate 12 one) (replicate 15 9) .answer ≡ Refused (ShortLoan 7))
-unfolding readWithin wrote slotsOf putRecord putRecords imageTest blocksTest loansTest verticesTest recordsGood recordGood flagsTest bitsOnly layoutTest startTest unless loanTest mapTest firstBreach breachAt breaks word32 word64 coordinateAt listed ofBits
+unfolding readWithin wrote slotsOf putRecord putRecords imageTest blocksTest loansTest verticesTest recordsGood recordGood flagsTest bitsOnly layoutTest
+    startTest unless loanTest mapTest firstBreach breachAt breaks word32 word64 coordinateAt listed ofBits
 short = (refl, refl, refl, refl)

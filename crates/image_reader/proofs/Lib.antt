@@ -1,12 +1,8 @@
 -- The laws of the reader, each file over the ones before it.
---   FillLaws   the vertex records put into their slots, turn by turn
---   SlotLaws   what the slots hold then
 --   Accepted   the tests pass exactly for images of well-formed maps, with loans that are long enough
 --   ReadLaws   each case of a reading
 --   Written    what a reading answers and writes
 --   Examples   the worked image of document 01, and refusals
-pub mod FillLaws
-pub mod SlotLaws
 pub mod Accepted
 pub mod ReadLaws
 pub mod Written

@@ -22,10 +22,10 @@ use Rattle.map_betas.specs.Betas.{beta}
 use Rattle.image_words.specs.Words.{word32}
 use Rattle.image_words.proofs.Filled.{listed-length, listed-get}
 use Rattle.image_form.specs.Form.{form1, flagOffset, vertexOffset, dartsOf, verticesOf, rowsOf, flagAt, recordAt, recordDart, recordCoordinate}
-use Rattle.image_reader.specs.Content.{slots, plusZero, noMarks, noCoordinates, emptySlots, flagsOf, slotsOf}
+use Rattle.image_fill.specs.Content.{slots, plusZero, noMarks, noCoordinates, emptySlots, flagsOf, slotsOf}
 use Rattle.image_reader.specs.Reads.{Read, left, wrote, testOf, readWithin, readImage, Accepted}
 use Rattle.image_form.proofs.StoredLaws.{rows-length, stored-is}
-use Rattle.image_reader.proofs.SlotLaws.{Holds, marks-length, coordinates-length, many-other, many-named}
+use Rattle.image_fill.proofs.SlotLaws.{Holds, marks-length, coordinates-length, many-other, many-named}
 use Rattle.image_reader.proofs.Accepted.{accepted-by, accepts}
 
 -- a loan whose first m places are written
@@ -104,53 +104,53 @@ module _ (most : ℕ) (bytes flags vertices : List ℕ) (coordinates : List Floa
     unfolding wrote
     answer-is = ap (λ (r : Read). r .answer) is
 
-    rows-are : after .rows ≡ rowsOf bytes n ++ drop (4 * n) rows
+    rows-are : after .loans .rows ≡ rowsOf bytes n ++ drop (4 * n) rows
     unfolding wrote
-    rows-are = ap (λ (r : Read). r .rows) is
+    rows-are = ap (λ (r : Read). r .loans .rows) is
 
-    flags-are : after .flags ≡ flagsOf bytes n ++ drop n flags
+    flags-are : after .loans .flags ≡ flagsOf bytes n ++ drop n flags
     unfolding wrote
-    flags-are = ap (λ (r : Read). r .flags) is
+    flags-are = ap (λ (r : Read). r .loans .flags) is
 
-    vertices-are : after .vertices ≡ slotsOf bytes n v .marks ++ drop n vertices
+    vertices-are : after .loans .vertices ≡ slotsOf bytes n v .marks ++ drop n vertices
     unfolding wrote
-    vertices-are = ap (λ (r : Read). r .vertices) is
+    vertices-are = ap (λ (r : Read). r .loans .vertices) is
 
-    coordinates-are : after .coordinates ≡ slotsOf bytes n v .coordinates ++ drop (3 * n) coordinates
+    coordinates-are : after .loans .coordinates ≡ slotsOf bytes n v .coordinates ++ drop (3 * n) coordinates
     unfolding wrote
-    coordinates-are = ap (λ (r : Read). r .coordinates) is
+    coordinates-are = ap (λ (r : Read). r .loans .coordinates) is
 
-    pub rows-say : (i d : ℕ) → i < 4 → d < n → beta (after .rows) i d ≡ word32 bytes (28 + 16 * d + 4 * i)
+    pub rows-say : (i d : ℕ) → i < 4 → d < n → beta (after .loans .rows) i d ≡ word32 bytes (28 + 16 * d + 4 * i)
     rows-say i d hi hd =
         ap (λ (l : List ℕ). getD l (4 * d + i) 0) rows-are ∙ front (rowsOf bytes n) rows (4 * n) (4 * d + i) 0 (rows-length bytes n) (omega arith)
         ∙ sym (stored-is bytes n i d hi hd)
 
-    pub rows-keep : (k : ℕ) → 4 * n ≤ k → getD (after .rows) k 0 ≡ getD rows k 0
+    pub rows-keep : (k : ℕ) → 4 * n ≤ k → getD (after .loans .rows) k 0 ≡ getD rows k 0
     rows-keep k h = ap (λ (l : List ℕ). getD l k 0) rows-are ∙ behind (rowsOf bytes n) rows (4 * n) k 0 (rows-length bytes n) h
 
-    pub flags-say : (d : ℕ) → d < n → getD (after .flags) d 0 ≡ flagAt bytes n d
+    pub flags-say : (d : ℕ) → d < n → getD (after .loans .flags) d 0 ≡ flagAt bytes n d
     flags-say d h =
         ap (λ (l : List ℕ). getD l d 0) flags-are
         ∙ front (flagsOf bytes n) flags n d 0 (listed-length (λ (k : ℕ). getD bytes (flagOffset form1 n + k) 0) n) h
         ∙ listed-get (λ (k : ℕ). getD bytes (flagOffset form1 n + k) 0) 0 n d h
 
-    pub flags-keep : (k : ℕ) → n ≤ k → getD (after .flags) k 0 ≡ getD flags k 0
+    pub flags-keep : (k : ℕ) → n ≤ k → getD (after .loans .flags) k 0 ≡ getD flags k 0
     flags-keep k h =
         ap (λ (l : List ℕ). getD l k 0) flags-are
         ∙ behind (flagsOf bytes n) flags n k 0 (listed-length (λ (j : ℕ). getD bytes (flagOffset form1 n + j) 0) n) h
 
-    pub vertices-keep : (k : ℕ) → n ≤ k → getD (after .vertices) k 0 ≡ getD vertices k 0
+    pub vertices-keep : (k : ℕ) → n ≤ k → getD (after .loans .vertices) k 0 ≡ getD vertices k 0
     vertices-keep k h =
         ap (λ (l : List ℕ). getD l k 0) vertices-are ∙ behind (slotsOf bytes n v .marks) vertices n k 0 (slot-marks bytes n v) h
 
-    pub coordinates-keep : (k : ℕ) → 3 * n ≤ k → getD (after .coordinates) k nan ≡ getD coordinates k nan
+    pub coordinates-keep : (k : ℕ) → 3 * n ≤ k → getD (after .loans .coordinates) k nan ≡ getD coordinates k nan
     coordinates-keep k h =
         ap (λ (l : List Float). getD l k nan) coordinates-are
         ∙ behind (slotsOf bytes n v .coordinates) coordinates (3 * n) k nan (slot-coordinates bytes n v) h
 
     -- a slot of the image, as the loans have it
     slot-is : (d : ℕ) → d < n → (mark : ℕ) (point : ℕ → Float) → Holds (slotsOf bytes n v) d mark point →
-        Holds (slots (after .vertices) (after .coordinates)) d mark point
+        Holds (slots (after .loans .vertices) (after .loans .coordinates)) d mark point
     slot-is d h mark point s =
         record {
           marked =
@@ -174,12 +174,12 @@ module _ (most : ℕ) (bytes flags vertices : List ℕ) (coordinates : List Floa
     unnamed d h none = many-other v bytes (vertexOffset form1 n) (emptySlots n) d 0 (λ (j : ℕ). plusZero) none (empty-holds n d h)
 
     pub vertex-says : (k : ℕ) → k < v →
-        Holds (slots (after .vertices) (after .coordinates)) (recordDart bytes (recordAt n k)) 1 (recordCoordinate bytes (recordAt n k))
+        Holds (slots (after .loans .vertices) (after .loans .coordinates)) (recordDart bytes (recordAt n k)) 1 (recordCoordinate bytes (recordAt n k))
     vertex-says k h =
         slot-is (recordDart bytes (recordAt n k)) (a .image .vertices .sound k h .below) 1 (recordCoordinate bytes (recordAt n k)) (named k h)
 
     pub no-vertex-says : (d : ℕ) → d < n → ((k : ℕ) → k < v → recordDart bytes (recordAt n k) ≢ d) →
-        Holds (slots (after .vertices) (after .coordinates)) d 0 (λ (j : ℕ). plusZero)
+        Holds (slots (after .loans .vertices) (after .loans .coordinates)) d 0 (λ (j : ℕ). plusZero)
     no-vertex-says d h none = slot-is d h 0 (λ (j : ℕ). plusZero) (unnamed d h none)
 
 -- the public reading

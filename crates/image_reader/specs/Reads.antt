@@ -1,33 +1,37 @@
 -- What a reading answers and leaves.
---   Read          the answer and the four loans
+--   Loaded        the four loans
+--   Read          an answer and the four loans
 --   wrote         what a reading that is done leaves: the image's content, and the rest of each loan as it was
 --   readWithin    the reading of an image of at most `most` darts
 --   readImage     the reading of an image of any number of darts that a map may have
 --   Accepted      what holds of an image and its loans exactly where it is read (`proofs/Accepted.antt`)
 use Prim.Native.Nat.{ℕ, _*_, _≤_}
 use mathlib.Core.List.{List, _++_}
-use mathlib.Core.Bool.{cond}
 use lib.ListN.{length, drop}
 use lib.Ieee.{Float}
 use Rattle.map_betas.specs.declared.error.Answer.{Answer}
 use Rattle.map_betas.specs.declared.error.Answer.the-variants.{Done}
-use Rattle.map_betas.specs.Answers.{isDone}
+use Rattle.map_betas.specs.Answers.{Outcome, outcome, behind}
 use Rattle.map_betas.specs.Maps.{WellFormed}
 use Rattle.image_form.specs.Form.{dartsOf, verticesOf, rowsOf, IsImage}
 use Rattle.map_betas.specs.Guards.{readerLoans}
 use Rattle.image_reader.specs.Tests.{imageTest}
-use Rattle.image_reader.specs.Content.{flagsOf, slotsOf}
+use Rattle.image_fill.specs.Content.{flagsOf, slotsOf}
 
-pub record Read : Type 0 where
-  pub answer : Answer
+pub record Loaded : Type 0 where
   pub flags : List ℕ
   pub vertices : List ℕ
   pub coordinates : List Float
   pub rows : List ℕ
 
+abbrev pub loaded : List ℕ → List ℕ → List Float → List ℕ → Loaded
+loaded flags vertices coordinates rows = record { flags = flags; vertices = vertices; coordinates = coordinates; rows = rows }
+
+abbrev pub Read : Type 0
+Read = Outcome Loaded
+
 abbrev pub left : Answer → List ℕ → List ℕ → List Float → List ℕ → Read
-left a flags vertices coordinates rows =
-    record { answer = a; flags = flags; vertices = vertices; coordinates = coordinates; rows = rows }
+left a flags vertices coordinates rows = outcome a (loaded flags vertices coordinates rows)
 
 -- "Success writes n darts' rows, flags, vertex marks .. and coordinates .. and no more"
 unfoldable pub wrote : List ℕ → ℕ → ℕ → List ℕ → List ℕ → List Float → List ℕ → Read
@@ -43,9 +47,8 @@ testOf most bytes flags vertices coordinates rows =
 -- "a refusal writes nothing"
 unfoldable pub readWithin : ℕ → List ℕ → List ℕ → List ℕ → List Float → List ℕ → Read
 readWithin most bytes flags vertices coordinates rows =
-    let test = testOf most bytes flags vertices coordinates rows in
-    cond (isDone test) (wrote bytes (dartsOf bytes) (verticesOf bytes) flags vertices coordinates rows)
-    (left test flags vertices coordinates rows)
+    behind (testOf most bytes flags vertices coordinates rows) (loaded flags vertices coordinates rows)
+    (wrote bytes (dartsOf bytes) (verticesOf bytes) flags vertices coordinates rows)
 
 -- "1 <= n <= 1,048,576"
 abbrev pub readImage : List ℕ → List ℕ → List ℕ → List Float → List ℕ → Read

@@ -1,3 +1,2 @@
 // The reader of stored images.
-pub mod fill;
 pub mod reader;

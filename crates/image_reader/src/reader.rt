@@ -1,9 +1,9 @@
 // The reader: all tests first, so that a refusal writes nothing; then the four loans.
-use crate::fill::clear_coordinates;
-use crate::fill::clear_marks;
-use crate::fill::copy_bytes;
-use crate::fill::copy_words;
-use crate::fill::put_records;
+use image_fill::clear_coordinates;
+use image_fill::clear_marks;
+use image_fill::copy_bytes;
+use image_fill::copy_words;
+use image_fill::put_records;
 use image_form::blocks::flags_test;
 use image_form::blocks::vertices_test;
 use image_form::form::DARTS_AT;
@@ -12,7 +12,7 @@ use image_form::form::VERTICES_AT;
 use image_form::form::flag_offset;
 use image_form::form::vertex_offset;
 use image_form::header::header_test;
-use image_form::map::map_test;
+use image_map::map_test;
 use image_words::word_at;
 use map_betas::error::Answer;
 use map_betas::error::Refusal;
@@ -25,7 +25,7 @@ ghost use Prim.Native.Nat.{ℕ, _*_, _<_, _≤_};
 ghost use lib.ListN.{length, drop};
 ghost use Rattle.image_form.specs.Form.{form1, totalBytes, recordAt, Sound};
 ghost use Rattle.image_reader.specs.Tests.{loansTest, blocksTest, imageTest};
-ghost use Rattle.image_reader.specs.Content.{slots, over, slotsOf};
+ghost use Rattle.image_fill.specs.Content.{slots, over, slotsOf};
 ghost use Rattle.image_reader.specs.Reads.{left, readWithin, readImage};
 
 // Refuses the first loan that is too short for n darts; the rows, the reader's own, come last.
@@ -78,8 +78,10 @@ fn image_test(bytes: &[u8], most: u32, loans: Loans, rows: usize) -> Answer
 
 // Writes the vertex slots of n darts from v records.
 fn fill_slots(bytes: &[u8], n: u32, v: u32, vertices: &mut [u8], coordinates: &mut [f64])
-    requires { ⌜ (n ≤ 1048576) × (totalBytes form1 n v ≤ length (now bytes)) × ((k : ℕ) → k < v → Sound (now bytes) n (recordAt n k)) × (n ≤ length (now vertices)) × (3 * n ≤ length (now coordinates)) ⌝ }
-    ensures { λ _. ⌜ slots (now (vertices .exit)) (now (coordinates .exit)) ≡ over (slotsOf (now (bytes .entry)) n v) (drop n (now (vertices .entry))) (drop (3 * n) (now (coordinates .entry))) ⌝ }
+    requires { ⌜ (n ≤ 1048576) × (totalBytes form1 n v ≤ length (now bytes)) × ((k : ℕ) → k < v → Sound (now bytes) n (recordAt n k))
+        × (n ≤ length (now vertices)) × (3 * n ≤ length (now coordinates)) ⌝ }
+    ensures { λ _. ⌜ slots (now (vertices .exit)) (now (coordinates .exit))
+        ≡ over (slotsOf (now (bytes .entry)) n v) (drop n (now (vertices .entry))) (drop (3 * n) (now (coordinates .entry))) ⌝ }
 {
     clear_marks(vertices, n as usize);
     clear_coordinates(coordinates, n as usize);
@@ -103,7 +105,8 @@ pub fn read_within(
     rows: &mut [u32],
 ) -> Answer
     requires { ⌜ most ≤ 1048576 ⌝ }
-    ensures { λ a. ⌜ left a (now (flags .exit)) (now (vertices .exit)) (now (coordinates .exit)) (now (rows .exit)) ≡ readWithin most (now (bytes .entry)) (now (flags .entry)) (now (vertices .entry)) (now (coordinates .entry)) (now (rows .entry)) ⌝ }
+    ensures { λ a. ⌜ left a (now (flags .exit)) (now (vertices .exit)) (now (coordinates .exit)) (now (rows .exit))
+        ≡ readWithin most (now (bytes .entry)) (now (flags .entry)) (now (vertices .entry)) (now (coordinates .entry)) (now (rows .entry)) ⌝ }
 {
     let loans = reader_loans(flags.len(), vertices.len(), coordinates.len());
     let t = image_test(bytes, most, loans, rows.len());
@@ -125,7 +128,8 @@ pub fn read_image(
     coordinates: &mut [f64],
     rows: &mut [u32],
 ) -> Answer
-    ensures { λ a. ⌜ left a (now (flags .exit)) (now (vertices .exit)) (now (coordinates .exit)) (now (rows .exit)) ≡ readImage (now (bytes .entry)) (now (flags .entry)) (now (vertices .entry)) (now (coordinates .entry)) (now (rows .entry)) ⌝ }
+    ensures { λ a. ⌜ left a (now (flags .exit)) (now (vertices .exit)) (now (coordinates .exit)) (now (rows .exit))
+        ≡ readImage (now (bytes .entry)) (now (flags .entry)) (now (vertices .entry)) (now (coordinates .entry)) (now (rows .entry)) ⌝ }
 {
     read_within(bytes, 1048576, flags, vertices, coordinates, rows)
 }

@@ -45,7 +45,8 @@ module _ (n : ℕ) where
   finite-test =
       by-cases (decLt (n % 0x8000_0000_0000_0000) 0x7ff0_0000_0000_0000)
       (λ (h : n % 0x8000_0000_0000_0000 < 0x7ff0_0000_0000_0000). lt-ltb (n % 0x8000_0000_0000_0000) 0x7ff0_0000_0000_0000 h ∙ sym (finite-yes h))
-      (λ (h : n % 0x8000_0000_0000_0000 < 0x7ff0_0000_0000_0000 → ⊥). le-ltb (n % 0x8000_0000_0000_0000) 0x7ff0_0000_0000_0000 (omega arith) ∙ sym (finite-no (omega arith)))
+      (λ (h : n % 0x8000_0000_0000_0000 < 0x7ff0_0000_0000_0000 → ⊥). le-ltb (n % 0x8000_0000_0000_0000) 0x7ff0_0000_0000_0000 (omega arith)
+      ∙ sym (finite-no (omega arith)))
 
   below : finite (ofBits binary64 n) ≡ true → n % 0x8000_0000_0000_0000 < 0x7ff0_0000_0000_0000
   below f =

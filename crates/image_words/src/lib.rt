@@ -32,7 +32,7 @@ pub fn word_at(bytes: &[u8], at: usize) -> u32
 }
 
 // The double word of the eight bytes from `at` on.
-pub fn long_at(bytes: &[u8], at: usize) -> u64
+fn long_at(bytes: &[u8], at: usize) -> u64
     requires { ⌜ at + 8 ≤ length (now bytes) ⌝ }
     ensures { λ r. ⌜ r ≡ word64 (now (bytes .entry)) at ⌝ }
 {

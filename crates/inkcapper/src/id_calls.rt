@@ -1,9 +1,9 @@
 // Identifiers of cells.
-use crate::flat::hand_on;
+use map_answers::flat::hand_on;
 ghost use mathlib.Core.Path.{_≡_};
 ghost use Rattle.cell_names.specs.Calls.{idCall};
-ghost use Rattle.cell_names.specs.declared.identifiers.Class.the-variants.{Vertex, Edge, Face, Volume};
-ghost use Rattle.inkcapper.specs.Flat.{flat, flatOf};
+ghost use Rattle.cell_steps.specs.declared.cells.Class.the-variants.{Vertex, Edge, Face, Volume};
+ghost use Rattle.map_betas.specs.Flat.{crossing, crossed};
 
 // The least dart of d's vertex.
 #[no_mangle]
@@ -14,9 +14,8 @@ pub extern "C" fn inkcapper_vertex_id(
     d: u32,
     values: &mut [u64; 3],
 ) -> u32
-    ensures { λ r. ⌜ flat r (now (values .exit)) ≡ flatOf (idCall (now (rows .entry)) (now (marks .entry)) (now (queue .entry)) Vertex d .answer) ⌝ }
-    ensures { λ r. ⌜ now (marks .exit) ≡ idCall (now (rows .entry)) (now (marks .entry)) (now (queue .entry)) Vertex d .marks ⌝ }
-    ensures { λ r. ⌜ now (queue .exit) ≡ idCall (now (rows .entry)) (now (marks .entry)) (now (queue .entry)) Vertex d .queue ⌝ }
+    ensures { λ r. ⌜ crossing r (now (values .exit)) (now (marks .exit), now (queue .exit))
+        ≡ crossed (idCall (now (rows .entry)) (now (marks .entry)) (now (queue .entry)) Vertex d) ⌝ }
 {
     hand_on(
         cell_calls::basic_ops::vertex_id(rows, marks, queue, d),
@@ -33,9 +32,8 @@ pub extern "C" fn inkcapper_edge_id(
     d: u32,
     values: &mut [u64; 3],
 ) -> u32
-    ensures { λ r. ⌜ flat r (now (values .exit)) ≡ flatOf (idCall (now (rows .entry)) (now (marks .entry)) (now (queue .entry)) Edge d .answer) ⌝ }
-    ensures { λ r. ⌜ now (marks .exit) ≡ idCall (now (rows .entry)) (now (marks .entry)) (now (queue .entry)) Edge d .marks ⌝ }
-    ensures { λ r. ⌜ now (queue .exit) ≡ idCall (now (rows .entry)) (now (marks .entry)) (now (queue .entry)) Edge d .queue ⌝ }
+    ensures { λ r. ⌜ crossing r (now (values .exit)) (now (marks .exit), now (queue .exit))
+        ≡ crossed (idCall (now (rows .entry)) (now (marks .entry)) (now (queue .entry)) Edge d) ⌝ }
 {
     hand_on(
         cell_calls::basic_ops::edge_id(rows, marks, queue, d),
@@ -52,9 +50,8 @@ pub extern "C" fn inkcapper_face_id(
     d: u32,
     values: &mut [u64; 3],
 ) -> u32
-    ensures { λ r. ⌜ flat r (now (values .exit)) ≡ flatOf (idCall (now (rows .entry)) (now (marks .entry)) (now (queue .entry)) Face d .answer) ⌝ }
-    ensures { λ r. ⌜ now (marks .exit) ≡ idCall (now (rows .entry)) (now (marks .entry)) (now (queue .entry)) Face d .marks ⌝ }
-    ensures { λ r. ⌜ now (queue .exit) ≡ idCall (now (rows .entry)) (now (marks .entry)) (now (queue .entry)) Face d .queue ⌝ }
+    ensures { λ r. ⌜ crossing r (now (values .exit)) (now (marks .exit), now (queue .exit))
+        ≡ crossed (idCall (now (rows .entry)) (now (marks .entry)) (now (queue .entry)) Face d) ⌝ }
 {
     hand_on(
         cell_calls::basic_ops::face_id(rows, marks, queue, d),
@@ -71,9 +68,8 @@ pub extern "C" fn inkcapper_volume_id(
     d: u32,
     values: &mut [u64; 3],
 ) -> u32
-    ensures { λ r. ⌜ flat r (now (values .exit)) ≡ flatOf (idCall (now (rows .entry)) (now (marks .entry)) (now (queue .entry)) Volume d .answer) ⌝ }
-    ensures { λ r. ⌜ now (marks .exit) ≡ idCall (now (rows .entry)) (now (marks .entry)) (now (queue .entry)) Volume d .marks ⌝ }
-    ensures { λ r. ⌜ now (queue .exit) ≡ idCall (now (rows .entry)) (now (marks .entry)) (now (queue .entry)) Volume d .queue ⌝ }
+    ensures { λ r. ⌜ crossing r (now (values .exit)) (now (marks .exit), now (queue .exit))
+        ≡ crossed (idCall (now (rows .entry)) (now (marks .entry)) (now (queue .entry)) Volume d) ⌝ }
 {
     hand_on(
         cell_calls::basic_ops::volume_id(rows, marks, queue, d),

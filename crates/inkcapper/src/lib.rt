@@ -1,6 +1,5 @@
 // The calls with plain C linkage, on numbers and slices. Each makes the crate's call and hands on its answer: the number is returned, the three
 // values are written (0 where absent).
-mod flat;
 pub mod id_calls;
 pub mod image_calls;
 pub mod link_calls;

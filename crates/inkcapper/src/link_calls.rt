@@ -1,8 +1,8 @@
 // Links and unlinks.
-use crate::flat::hand_on;
+use map_answers::flat::hand_on;
 ghost use mathlib.Core.Path.{_≡_};
 ghost use Rattle.link_walk.specs.Calls.{oneLink, twoLink, threeLink, oneUnlink, twoUnlink, threeUnlink};
-ghost use Rattle.inkcapper.specs.Flat.{flat, flatOf};
+ghost use Rattle.map_betas.specs.Flat.{crossing, crossed};
 
 // Links ld and rd by beta 1.
 #[no_mangle]
@@ -12,8 +12,7 @@ pub extern "C" fn inkcapper_one_link(
     rd: u32,
     values: &mut [u64; 3],
 ) -> u32
-    ensures { λ r. ⌜ flat r (now (values .exit)) ≡ flatOf (oneLink (now (rows .entry)) ld rd .answer) ⌝ }
-    ensures { λ r. ⌜ now (rows .exit) ≡ oneLink (now (rows .entry)) ld rd .rows ⌝ }
+    ensures { λ r. ⌜ crossing r (now (values .exit)) (now (rows .exit)) ≡ crossed (oneLink (now (rows .entry)) ld rd) ⌝ }
 {
     hand_on(link_flat::one::one_link(rows, ld, rd), values)
 }
@@ -26,8 +25,7 @@ pub extern "C" fn inkcapper_two_link(
     rd: u32,
     values: &mut [u64; 3],
 ) -> u32
-    ensures { λ r. ⌜ flat r (now (values .exit)) ≡ flatOf (twoLink (now (rows .entry)) ld rd .answer) ⌝ }
-    ensures { λ r. ⌜ now (rows .exit) ≡ twoLink (now (rows .entry)) ld rd .rows ⌝ }
+    ensures { λ r. ⌜ crossing r (now (values .exit)) (now (rows .exit)) ≡ crossed (twoLink (now (rows .entry)) ld rd) ⌝ }
 {
     hand_on(link_flat::two::two_link(rows, ld, rd), values)
 }
@@ -40,8 +38,7 @@ pub extern "C" fn inkcapper_three_link(
     rd: u32,
     values: &mut [u64; 3],
 ) -> u32
-    ensures { λ r. ⌜ flat r (now (values .exit)) ≡ flatOf (threeLink (now (rows .entry)) ld rd .answer) ⌝ }
-    ensures { λ r. ⌜ now (rows .exit) ≡ threeLink (now (rows .entry)) ld rd .rows ⌝ }
+    ensures { λ r. ⌜ crossing r (now (values .exit)) (now (rows .exit)) ≡ crossed (threeLink (now (rows .entry)) ld rd) ⌝ }
 {
     hand_on(link_three::three::three_link(rows, ld, rd), values)
 }
@@ -49,8 +46,7 @@ pub extern "C" fn inkcapper_three_link(
 // Unlinks ld and its image by beta 1, which is answered.
 #[no_mangle]
 pub extern "C" fn inkcapper_one_unlink(rows: &mut [u32], ld: u32, values: &mut [u64; 3]) -> u32
-    ensures { λ r. ⌜ flat r (now (values .exit)) ≡ flatOf (oneUnlink (now (rows .entry)) ld .answer) ⌝ }
-    ensures { λ r. ⌜ now (rows .exit) ≡ oneUnlink (now (rows .entry)) ld .rows ⌝ }
+    ensures { λ r. ⌜ crossing r (now (values .exit)) (now (rows .exit)) ≡ crossed (oneUnlink (now (rows .entry)) ld) ⌝ }
 {
     hand_on(link_flat::one::one_unlink(rows, ld), values)
 }
@@ -58,8 +54,7 @@ pub extern "C" fn inkcapper_one_unlink(rows: &mut [u32], ld: u32, values: &mut [
 // Unlinks ld and its image by beta 2, which is answered.
 #[no_mangle]
 pub extern "C" fn inkcapper_two_unlink(rows: &mut [u32], ld: u32, values: &mut [u64; 3]) -> u32
-    ensures { λ r. ⌜ flat r (now (values .exit)) ≡ flatOf (twoUnlink (now (rows .entry)) ld .answer) ⌝ }
-    ensures { λ r. ⌜ now (rows .exit) ≡ twoUnlink (now (rows .entry)) ld .rows ⌝ }
+    ensures { λ r. ⌜ crossing r (now (values .exit)) (now (rows .exit)) ≡ crossed (twoUnlink (now (rows .entry)) ld) ⌝ }
 {
     hand_on(link_flat::two::two_unlink(rows, ld), values)
 }
@@ -67,8 +62,7 @@ pub extern "C" fn inkcapper_two_unlink(rows: &mut [u32], ld: u32, values: &mut [
 // Unlinks the faces of ld and its image by beta 3, which is answered, pair by pair.
 #[no_mangle]
 pub extern "C" fn inkcapper_three_unlink(rows: &mut [u32], ld: u32, values: &mut [u64; 3]) -> u32
-    ensures { λ r. ⌜ flat r (now (values .exit)) ≡ flatOf (threeUnlink (now (rows .entry)) ld .answer) ⌝ }
-    ensures { λ r. ⌜ now (rows .exit) ≡ threeUnlink (now (rows .entry)) ld .rows ⌝ }
+    ensures { λ r. ⌜ crossing r (now (values .exit)) (now (rows .exit)) ≡ crossed (threeUnlink (now (rows .entry)) ld) ⌝ }
 {
     hand_on(link_three::three::three_unlink(rows, ld), values)
 }

@@ -1,9 +1,9 @@
 // Lists of cells.
-use crate::flat::hand_on;
+use map_answers::flat::hand_on;
 ghost use mathlib.Core.Path.{_≡_};
 ghost use Rattle.cell_names.specs.Calls.{listCall};
-ghost use Rattle.cell_names.specs.declared.identifiers.Class.the-variants.{Vertex, Edge, Face, Volume};
-ghost use Rattle.inkcapper.specs.Flat.{flat, flatOf};
+ghost use Rattle.cell_steps.specs.declared.cells.Class.the-variants.{Vertex, Edge, Face, Volume};
+ghost use Rattle.map_betas.specs.Flat.{crossing, crossed};
 
 // Lists the vertices of darts that are not unused, ascending.
 #[no_mangle]
@@ -15,13 +15,11 @@ pub extern "C" fn inkcapper_list_vertices(
     flags: &[u8],
     values: &mut [u64; 3],
 ) -> u32
-    ensures { λ r. ⌜ flat r (now (values .exit)) ≡ flatOf (listCall (now (rows .entry)) (now (marks .entry)) (now (queue .entry)) (now (output .entry)) (now (flags .entry)) Vertex .answer) ⌝ }
-    ensures { λ r. ⌜ now (marks .exit) ≡ listCall (now (rows .entry)) (now (marks .entry)) (now (queue .entry)) (now (output .entry)) (now (flags .entry)) Vertex .marks ⌝ }
-    ensures { λ r. ⌜ now (queue .exit) ≡ listCall (now (rows .entry)) (now (marks .entry)) (now (queue .entry)) (now (output .entry)) (now (flags .entry)) Vertex .queue ⌝ }
-    ensures { λ r. ⌜ now (output .exit) ≡ listCall (now (rows .entry)) (now (marks .entry)) (now (queue .entry)) (now (output .entry)) (now (flags .entry)) Vertex .output ⌝ }
+    ensures { λ r. ⌜ crossing r (now (values .exit)) (now (marks .exit), now (queue .exit), now (output .exit))
+        ≡ crossed (listCall (now (rows .entry)) (now (marks .entry)) (now (queue .entry)) (now (output .entry)) (now (flags .entry)) Vertex) ⌝ }
 {
     hand_on(
-        cell_calls::basic_ops::list_vertices(rows, marks, queue, output, flags),
+        cell_list_calls::basic_ops::list_vertices(rows, marks, queue, output, flags),
         values,
     )
 }
@@ -36,13 +34,11 @@ pub extern "C" fn inkcapper_list_edges(
     flags: &[u8],
     values: &mut [u64; 3],
 ) -> u32
-    ensures { λ r. ⌜ flat r (now (values .exit)) ≡ flatOf (listCall (now (rows .entry)) (now (marks .entry)) (now (queue .entry)) (now (output .entry)) (now (flags .entry)) Edge .answer) ⌝ }
-    ensures { λ r. ⌜ now (marks .exit) ≡ listCall (now (rows .entry)) (now (marks .entry)) (now (queue .entry)) (now (output .entry)) (now (flags .entry)) Edge .marks ⌝ }
-    ensures { λ r. ⌜ now (queue .exit) ≡ listCall (now (rows .entry)) (now (marks .entry)) (now (queue .entry)) (now (output .entry)) (now (flags .entry)) Edge .queue ⌝ }
-    ensures { λ r. ⌜ now (output .exit) ≡ listCall (now (rows .entry)) (now (marks .entry)) (now (queue .entry)) (now (output .entry)) (now (flags .entry)) Edge .output ⌝ }
+    ensures { λ r. ⌜ crossing r (now (values .exit)) (now (marks .exit), now (queue .exit), now (output .exit))
+        ≡ crossed (listCall (now (rows .entry)) (now (marks .entry)) (now (queue .entry)) (now (output .entry)) (now (flags .entry)) Edge) ⌝ }
 {
     hand_on(
-        cell_calls::basic_ops::list_edges(rows, marks, queue, output, flags),
+        cell_list_calls::basic_ops::list_edges(rows, marks, queue, output, flags),
         values,
     )
 }
@@ -57,13 +53,11 @@ pub extern "C" fn inkcapper_list_faces(
     flags: &[u8],
     values: &mut [u64; 3],
 ) -> u32
-    ensures { λ r. ⌜ flat r (now (values .exit)) ≡ flatOf (listCall (now (rows .entry)) (now (marks .entry)) (now (queue .entry)) (now (output .entry)) (now (flags .entry)) Face .answer) ⌝ }
-    ensures { λ r. ⌜ now (marks .exit) ≡ listCall (now (rows .entry)) (now (marks .entry)) (now (queue .entry)) (now (output .entry)) (now (flags .entry)) Face .marks ⌝ }
-    ensures { λ r. ⌜ now (queue .exit) ≡ listCall (now (rows .entry)) (now (marks .entry)) (now (queue .entry)) (now (output .entry)) (now (flags .entry)) Face .queue ⌝ }
-    ensures { λ r. ⌜ now (output .exit) ≡ listCall (now (rows .entry)) (now (marks .entry)) (now (queue .entry)) (now (output .entry)) (now (flags .entry)) Face .output ⌝ }
+    ensures { λ r. ⌜ crossing r (now (values .exit)) (now (marks .exit), now (queue .exit), now (output .exit))
+        ≡ crossed (listCall (now (rows .entry)) (now (marks .entry)) (now (queue .entry)) (now (output .entry)) (now (flags .entry)) Face) ⌝ }
 {
     hand_on(
-        cell_calls::basic_ops::list_faces(rows, marks, queue, output, flags),
+        cell_list_calls::basic_ops::list_faces(rows, marks, queue, output, flags),
         values,
     )
 }
@@ -78,13 +72,11 @@ pub extern "C" fn inkcapper_list_volumes(
     flags: &[u8],
     values: &mut [u64; 3],
 ) -> u32
-    ensures { λ r. ⌜ flat r (now (values .exit)) ≡ flatOf (listCall (now (rows .entry)) (now (marks .entry)) (now (queue .entry)) (now (output .entry)) (now (flags .entry)) Volume .answer) ⌝ }
-    ensures { λ r. ⌜ now (marks .exit) ≡ listCall (now (rows .entry)) (now (marks .entry)) (now (queue .entry)) (now (output .entry)) (now (flags .entry)) Volume .marks ⌝ }
-    ensures { λ r. ⌜ now (queue .exit) ≡ listCall (now (rows .entry)) (now (marks .entry)) (now (queue .entry)) (now (output .entry)) (now (flags .entry)) Volume .queue ⌝ }
-    ensures { λ r. ⌜ now (output .exit) ≡ listCall (now (rows .entry)) (now (marks .entry)) (now (queue .entry)) (now (output .entry)) (now (flags .entry)) Volume .output ⌝ }
+    ensures { λ r. ⌜ crossing r (now (values .exit)) (now (marks .exit), now (queue .exit), now (output .exit))
+        ≡ crossed (listCall (now (rows .entry)) (now (marks .entry)) (now (queue .entry)) (now (output .entry)) (now (flags .entry)) Volume) ⌝ }
 {
     hand_on(
-        cell_calls::basic_ops::list_volumes(rows, marks, queue, output, flags),
+        cell_list_calls::basic_ops::list_volumes(rows, marks, queue, output, flags),
         values,
     )
 }

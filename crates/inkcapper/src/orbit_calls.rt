@@ -1,10 +1,10 @@
 // Orbits, one function for each class.
-use crate::flat::hand_on;
 use cell_steps::policy::OrbitPolicy;
+use map_answers::flat::hand_on;
 ghost use mathlib.Core.Path.{_≡_};
 ghost use Rattle.cell_steps.specs.Calls.{orbitCall, customCall};
 ghost use Rattle.cell_steps.specs.declared.policy.OrbitPolicy.the-variants.{Vertex, VertexLinear, Edge, Face, FaceLinear, Volume, VolumeLinear};
-ghost use Rattle.inkcapper.specs.Flat.{flat, flatOf};
+ghost use Rattle.map_betas.specs.Flat.{crossing, crossed};
 
 // Lists the Vertex orbit of d, first found first.
 #[no_mangle]
@@ -15,9 +15,8 @@ pub extern "C" fn inkcapper_orbit_vertex(
     d: u32,
     values: &mut [u64; 3],
 ) -> u32
-    ensures { λ r. ⌜ flat r (now (values .exit)) ≡ flatOf (orbitCall (now (rows .entry)) (now (marks .entry)) (now (output .entry)) Vertex d .answer) ⌝ }
-    ensures { λ r. ⌜ now (marks .exit) ≡ orbitCall (now (rows .entry)) (now (marks .entry)) (now (output .entry)) Vertex d .marks ⌝ }
-    ensures { λ r. ⌜ now (output .exit) ≡ orbitCall (now (rows .entry)) (now (marks .entry)) (now (output .entry)) Vertex d .output ⌝ }
+    ensures { λ r. ⌜ crossing r (now (values .exit)) (now (marks .exit), now (output .exit))
+        ≡ crossed (orbitCall (now (rows .entry)) (now (marks .entry)) (now (output .entry)) Vertex d) ⌝ }
 {
     hand_on(
         cell_orbits::orbits::orbit(rows, marks, output, OrbitPolicy::Vertex, d),
@@ -34,9 +33,8 @@ pub extern "C" fn inkcapper_orbit_vertex_linear(
     d: u32,
     values: &mut [u64; 3],
 ) -> u32
-    ensures { λ r. ⌜ flat r (now (values .exit)) ≡ flatOf (orbitCall (now (rows .entry)) (now (marks .entry)) (now (output .entry)) VertexLinear d .answer) ⌝ }
-    ensures { λ r. ⌜ now (marks .exit) ≡ orbitCall (now (rows .entry)) (now (marks .entry)) (now (output .entry)) VertexLinear d .marks ⌝ }
-    ensures { λ r. ⌜ now (output .exit) ≡ orbitCall (now (rows .entry)) (now (marks .entry)) (now (output .entry)) VertexLinear d .output ⌝ }
+    ensures { λ r. ⌜ crossing r (now (values .exit)) (now (marks .exit), now (output .exit))
+        ≡ crossed (orbitCall (now (rows .entry)) (now (marks .entry)) (now (output .entry)) VertexLinear d) ⌝ }
 {
     hand_on(
         cell_orbits::orbits::orbit(rows, marks, output, OrbitPolicy::VertexLinear, d),
@@ -53,9 +51,8 @@ pub extern "C" fn inkcapper_orbit_edge(
     d: u32,
     values: &mut [u64; 3],
 ) -> u32
-    ensures { λ r. ⌜ flat r (now (values .exit)) ≡ flatOf (orbitCall (now (rows .entry)) (now (marks .entry)) (now (output .entry)) Edge d .answer) ⌝ }
-    ensures { λ r. ⌜ now (marks .exit) ≡ orbitCall (now (rows .entry)) (now (marks .entry)) (now (output .entry)) Edge d .marks ⌝ }
-    ensures { λ r. ⌜ now (output .exit) ≡ orbitCall (now (rows .entry)) (now (marks .entry)) (now (output .entry)) Edge d .output ⌝ }
+    ensures { λ r. ⌜ crossing r (now (values .exit)) (now (marks .exit), now (output .exit))
+        ≡ crossed (orbitCall (now (rows .entry)) (now (marks .entry)) (now (output .entry)) Edge d) ⌝ }
 {
     hand_on(
         cell_orbits::orbits::orbit(rows, marks, output, OrbitPolicy::Edge, d),
@@ -72,9 +69,8 @@ pub extern "C" fn inkcapper_orbit_face(
     d: u32,
     values: &mut [u64; 3],
 ) -> u32
-    ensures { λ r. ⌜ flat r (now (values .exit)) ≡ flatOf (orbitCall (now (rows .entry)) (now (marks .entry)) (now (output .entry)) Face d .answer) ⌝ }
-    ensures { λ r. ⌜ now (marks .exit) ≡ orbitCall (now (rows .entry)) (now (marks .entry)) (now (output .entry)) Face d .marks ⌝ }
-    ensures { λ r. ⌜ now (output .exit) ≡ orbitCall (now (rows .entry)) (now (marks .entry)) (now (output .entry)) Face d .output ⌝ }
+    ensures { λ r. ⌜ crossing r (now (values .exit)) (now (marks .exit), now (output .exit))
+        ≡ crossed (orbitCall (now (rows .entry)) (now (marks .entry)) (now (output .entry)) Face d) ⌝ }
 {
     hand_on(
         cell_orbits::orbits::orbit(rows, marks, output, OrbitPolicy::Face, d),
@@ -91,9 +87,8 @@ pub extern "C" fn inkcapper_orbit_face_linear(
     d: u32,
     values: &mut [u64; 3],
 ) -> u32
-    ensures { λ r. ⌜ flat r (now (values .exit)) ≡ flatOf (orbitCall (now (rows .entry)) (now (marks .entry)) (now (output .entry)) FaceLinear d .answer) ⌝ }
-    ensures { λ r. ⌜ now (marks .exit) ≡ orbitCall (now (rows .entry)) (now (marks .entry)) (now (output .entry)) FaceLinear d .marks ⌝ }
-    ensures { λ r. ⌜ now (output .exit) ≡ orbitCall (now (rows .entry)) (now (marks .entry)) (now (output .entry)) FaceLinear d .output ⌝ }
+    ensures { λ r. ⌜ crossing r (now (values .exit)) (now (marks .exit), now (output .exit))
+        ≡ crossed (orbitCall (now (rows .entry)) (now (marks .entry)) (now (output .entry)) FaceLinear d) ⌝ }
 {
     hand_on(
         cell_orbits::orbits::orbit(rows, marks, output, OrbitPolicy::FaceLinear, d),
@@ -110,9 +105,8 @@ pub extern "C" fn inkcapper_orbit_volume(
     d: u32,
     values: &mut [u64; 3],
 ) -> u32
-    ensures { λ r. ⌜ flat r (now (values .exit)) ≡ flatOf (orbitCall (now (rows .entry)) (now (marks .entry)) (now (output .entry)) Volume d .answer) ⌝ }
-    ensures { λ r. ⌜ now (marks .exit) ≡ orbitCall (now (rows .entry)) (now (marks .entry)) (now (output .entry)) Volume d .marks ⌝ }
-    ensures { λ r. ⌜ now (output .exit) ≡ orbitCall (now (rows .entry)) (now (marks .entry)) (now (output .entry)) Volume d .output ⌝ }
+    ensures { λ r. ⌜ crossing r (now (values .exit)) (now (marks .exit), now (output .exit))
+        ≡ crossed (orbitCall (now (rows .entry)) (now (marks .entry)) (now (output .entry)) Volume d) ⌝ }
 {
     hand_on(
         cell_orbits::orbits::orbit(rows, marks, output, OrbitPolicy::Volume, d),
@@ -129,9 +123,8 @@ pub extern "C" fn inkcapper_orbit_volume_linear(
     d: u32,
     values: &mut [u64; 3],
 ) -> u32
-    ensures { λ r. ⌜ flat r (now (values .exit)) ≡ flatOf (orbitCall (now (rows .entry)) (now (marks .entry)) (now (output .entry)) VolumeLinear d .answer) ⌝ }
-    ensures { λ r. ⌜ now (marks .exit) ≡ orbitCall (now (rows .entry)) (now (marks .entry)) (now (output .entry)) VolumeLinear d .marks ⌝ }
-    ensures { λ r. ⌜ now (output .exit) ≡ orbitCall (now (rows .entry)) (now (marks .entry)) (now (output .entry)) VolumeLinear d .output ⌝ }
+    ensures { λ r. ⌜ crossing r (now (values .exit)) (now (marks .exit), now (output .exit))
+        ≡ crossed (orbitCall (now (rows .entry)) (now (marks .entry)) (now (output .entry)) VolumeLinear d) ⌝ }
 {
     hand_on(
         cell_orbits::orbits::orbit(rows, marks, output, OrbitPolicy::VolumeLinear, d),
@@ -149,9 +142,8 @@ pub extern "C" fn inkcapper_orbit_custom(
     d: u32,
     values: &mut [u64; 3],
 ) -> u32
-    ensures { λ r. ⌜ flat r (now (values .exit)) ≡ flatOf (customCall (now (rows .entry)) (now (marks .entry)) (now (output .entry)) (now (betas .entry)) d .answer) ⌝ }
-    ensures { λ r. ⌜ now (marks .exit) ≡ customCall (now (rows .entry)) (now (marks .entry)) (now (output .entry)) (now (betas .entry)) d .marks ⌝ }
-    ensures { λ r. ⌜ now (output .exit) ≡ customCall (now (rows .entry)) (now (marks .entry)) (now (output .entry)) (now (betas .entry)) d .output ⌝ }
+    ensures { λ r. ⌜ crossing r (now (values .exit)) (now (marks .exit), now (output .exit))
+        ≡ crossed (customCall (now (rows .entry)) (now (marks .entry)) (now (output .entry)) (now (betas .entry)) d) ⌝ }
 {
     hand_on(
         cell_orbits::orbits::orbit_custom(rows, marks, output, betas, d),

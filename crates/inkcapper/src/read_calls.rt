@@ -1,16 +1,15 @@
 // The map test, beta reads and free tests.
-use crate::flat::hand_on;
 ghost use mathlib.Core.Path.{_≡_};
 ghost use Rattle.map_betas.specs.Maps.{checkMap};
 ghost use Rattle.map_betas.specs.Reads.{betaRead, iFree, isFree};
-ghost use Rattle.inkcapper.specs.Flat.{flat, flatOf};
+ghost use Rattle.map_betas.specs.Flat.{flat, flatOf};
 
 // Whether the rows are a 3-map: refusals 1 and 3.
 #[no_mangle]
 pub extern "C" fn inkcapper_check_map(rows: &[u32], values: &mut [u64; 3]) -> u32
     ensures { λ r. ⌜ flat r (now (values .exit)) ≡ flatOf (checkMap (now (rows .entry))) ⌝ }
 {
-    hand_on(map_test::structure::check_map(rows), values)
+    map_reads::numbers::check_map(rows, values)
 }
 
 // The image of d by beta i.
@@ -18,7 +17,7 @@ pub extern "C" fn inkcapper_check_map(rows: &[u32], values: &mut [u64; 3]) -> u3
 pub extern "C" fn inkcapper_beta(rows: &[u32], i: u32, d: u32, values: &mut [u64; 3]) -> u32
     ensures { λ r. ⌜ flat r (now (values .exit)) ≡ flatOf (betaRead (now (rows .entry)) i d) ⌝ }
 {
-    hand_on(map_reads::basic_ops::beta(rows, i, d), values)
+    map_reads::numbers::beta(rows, i, d, values)
 }
 
 // Whether the image of d by beta i is null.
@@ -26,7 +25,7 @@ pub extern "C" fn inkcapper_beta(rows: &[u32], i: u32, d: u32, values: &mut [u64
 pub extern "C" fn inkcapper_is_i_free(rows: &[u32], i: u32, d: u32, values: &mut [u64; 3]) -> u32
     ensures { λ r. ⌜ flat r (now (values .exit)) ≡ flatOf (iFree (now (rows .entry)) i d) ⌝ }
 {
-    hand_on(map_reads::basic_ops::is_i_free(rows, i, d), values)
+    map_reads::numbers::is_i_free(rows, i, d, values)
 }
 
 // Whether d has no image.
@@ -34,5 +33,5 @@ pub extern "C" fn inkcapper_is_i_free(rows: &[u32], i: u32, d: u32, values: &mut
 pub extern "C" fn inkcapper_is_free(rows: &[u32], d: u32, values: &mut [u64; 3]) -> u32
     ensures { λ r. ⌜ flat r (now (values .exit)) ≡ flatOf (isFree (now (rows .entry)) d) ⌝ }
 {
-    hand_on(map_reads::basic_ops::is_free(rows, d), values)
+    map_reads::numbers::is_free(rows, d, values)
 }

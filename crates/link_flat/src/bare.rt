@@ -7,13 +7,13 @@ use map_betas::loans::no_loans;
 use map_guard::guard::guard;
 ghost use mathlib.Core.Path.{_≡_};
 ghost use Prim.Native.Nat.{_≤_, _<_};
-ghost use Rattle.map_betas.specs.Answers.{out};
+ghost use Rattle.map_betas.specs.Answers.{outcome};
 ghost use Rattle.link_walk.specs.Calls.{bareLink, bareUnlink};
 
 // Links ld and rd by beta i.
 pub(crate) fn bare_link(rows: &mut [u32], i: u32, ld: u32, rd: u32) -> Answer
     requires { ⌜ (1 ≤ i) × (i < 4) ⌝ }
-    ensures { λ a. ⌜ out a (now (rows .exit)) ≡ bareLink (now (rows .entry)) i ld rd ⌝ }
+    ensures { λ a. ⌜ outcome a (now (rows .exit)) ≡ bareLink (now (rows .entry)) i ld rd ⌝ }
 {
     let g = guard(rows, no_loans(), 1, ld, rd);
     if !is_done(g) {
@@ -25,7 +25,7 @@ pub(crate) fn bare_link(rows: &mut [u32], i: u32, ld: u32, rd: u32) -> Answer
 // Unlinks ld and its image by beta i, which is answered.
 pub(crate) fn bare_unlink(rows: &mut [u32], i: u32, ld: u32) -> Answer
     requires { ⌜ (1 ≤ i) × (i < 4) ⌝ }
-    ensures { λ a. ⌜ out a (now (rows .exit)) ≡ bareUnlink (now (rows .entry)) i ld ⌝ }
+    ensures { λ a. ⌜ outcome a (now (rows .exit)) ≡ bareUnlink (now (rows .entry)) i ld ⌝ }
 {
     let g = guard(rows, no_loans(), 1, ld, ld);
     if !is_done(g) {

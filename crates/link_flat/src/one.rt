@@ -3,19 +3,19 @@ use crate::bare::bare_link;
 use crate::bare::bare_unlink;
 use map_betas::error::Answer;
 ghost use mathlib.Core.Path.{_≡_};
-ghost use Rattle.map_betas.specs.Answers.{out};
+ghost use Rattle.map_betas.specs.Answers.{outcome};
 ghost use Rattle.link_walk.specs.Calls.{oneLink, oneUnlink};
 
 // 1-links ld and rd. After a refusal the rows are as they were.
 pub fn one_link(rows: &mut [u32], ld: u32, rd: u32) -> Answer
-    ensures { λ a. ⌜ out a (now (rows .exit)) ≡ oneLink (now (rows .entry)) ld rd ⌝ }
+    ensures { λ a. ⌜ outcome a (now (rows .exit)) ≡ oneLink (now (rows .entry)) ld rd ⌝ }
 {
     bare_link(rows, 1, ld, rd)
 }
 
 // 1-unlinks ld and its image, which is answered. After a refusal the rows are as they were.
 pub fn one_unlink(rows: &mut [u32], ld: u32) -> Answer
-    ensures { λ a. ⌜ out a (now (rows .exit)) ≡ oneUnlink (now (rows .entry)) ld ⌝ }
+    ensures { λ a. ⌜ outcome a (now (rows .exit)) ≡ oneUnlink (now (rows .entry)) ld ⌝ }
 {
     bare_unlink(rows, 1, ld)
 }

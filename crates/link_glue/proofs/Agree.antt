@@ -10,5 +10,6 @@ use Rattle.link_walk.specs.Calls.{threeLink, threeUnlink}
 use Rattle.link_glue.specs.Examples.{lines, calls, sayings}
 
 pub agree : calls lines ≡ sayings lines
-unfolding lines calls sayings threeLink threeUnlink guardOf loanTest noDart mapTest firstBreach breachAt breaks badSize threeLinkOn threeUnlinkOn linkCore unlinkCore stepOf walk
+unfolding lines calls sayings threeLink threeUnlink guardOf loanTest noDart mapTest firstBreach breachAt breaks badSize threeLinkOn threeUnlinkOn linkCore
+    unlinkCore stepOf walk
 agree = refl

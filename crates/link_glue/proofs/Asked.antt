@@ -1,6 +1,7 @@
 -- Partners that face the darts of ld's face chain are all that a 3-link or a 3-unlink asks: it is done.
---   Faced          partners: rd of ld, facing the chain, real, outside it, no two the same
---   up-pair, down-pair   the partners of a dart's neighbours
+--   Partners          partners: rd of ld, facing the chain, real, outside it, no two the same
+--   along          the partners of the darts from ld on
+--   down-pair      the partner of the dart before
 --   fresh₁, fresh₂       the pairs ahead of each leg are real, different and still to change
 --   asked          the walk is done
 --   link-asked     a matching makes a 3-link done
@@ -8,27 +9,30 @@
 -- Assumes nothing.
 use Prim.Native.Nat.{ℕ, zero, suc, _+_, _-_, _<_, _≤_}
 use native.Mathlib.Omega.{arith}
-use native.Mathlib.Decide.{decLt, ℕ-discrete}
+use native.Mathlib.Decide.{ℕ-discrete}
 use mathlib.Core.Path.{_≡_, refl, sym, ap, subst, _∙_}
 use mathlib.Core.Logic.{_≢_, by-cases}
 use mathlib.Core.List.{List}
 use mathlib.Core.Bool.{Bool, true, false, cond}
-use lib.ListN.{length, set}
+use lib.ListN.{length}
 use borrow.Author.Tests.{eq-eqb, ne-eqb}
-use Rattle.map_betas.specs.Betas.{cell, beta, opp, darts}
+use Rattle.map_betas.specs.Betas.{beta, darts}
 use Rattle.map_betas.specs.Answers.{Out, isDone}
 use Rattle.map_betas.specs.Maps.{WellFormed}
+use Rattle.map_betas.proofs.Stores.{paired}
+use Rattle.map_betas.specs.Chains.{far}
+use Rattle.map_betas.proofs.Chains.{Run, far-zero, far-suc, far-last, far-plus, far-real, far-undo, far-again, round-real, chain-far}
 use Rattle.link_walk.specs.Walk.{stepOf, LegOut}
 use Rattle.link_walk.specs.Three.{legOn, legBack, afterLeg, afterCore, threeLinkOn, threeUnlinkOn}
-use Rattle.link_glue.specs.Matching.{Chain, first, on, back, Closed, Facing, Matching, Unlinkable}
+use Rattle.link_glue.specs.Matching.{Chain, first, back, ClosedChain, Facing, Matching, Unlinkable}
 use Rattle.link_walk.proofs.StepLaws.{Changed, left-le, changed-formed, changed-low, changed-length, changed-far}
 use Rattle.link_walk.proofs.ThreeLaws.{on-link, on-unlink}
 use Rattle.link_glue.proofs.Turns.{said-done, step-again}
-use Rattle.link_glue.proofs.Trace.{far, far-zero, far-last, far-plus, Trace}
+use Rattle.link_glue.proofs.Trace.{Trace}
 use Rattle.link_glue.proofs.Found.{leaves₁, trace₁}
-use Rattle.link_glue.proofs.Fresh.{Run, Fresh, finishes}
+use Rattle.link_glue.proofs.Fresh.{Fresh, finishes}
 
-pub record Faced (rows : List ℕ) (ld rd : ℕ) (p : ℕ → ℕ) : Type 0 where
+pub record Partners (rows : List ℕ) (ld rd : ℕ) (p : ℕ → ℕ) : Type 0 where
   pub starts : p ld ≡ rd
   pub facing : Facing rows ld p
   pub real : (d : ℕ) → Chain rows ld d → p d ≢ 0
@@ -36,18 +40,26 @@ pub record Faced (rows : List ℕ) (ld rd : ℕ) (p : ℕ → ℕ) : Type 0 wher
   pub different : (d e : ℕ) → Chain rows ld d → Chain rows ld e → p d ≡ p e → d ≡ e
 
 -- `was` is how the pairs are before: free for a link, linked for an unlink
-module _ (un : Bool) (rows : List ℕ) (ld rd : ℕ) (p : ℕ → ℕ) (s : WellFormed rows) (nl : ld ≢ 0) (hl : ld < darts rows) (hr : rd < darts rows) (q : Faced rows ld rd p)
+module _ (un : Bool) (rows : List ℕ) (ld rd : ℕ) (p : ℕ → ℕ) (s : WellFormed rows) (nl : ld ≢ 0) (hl : ld < darts rows) (hr : rd < darts rows)
+    (q : Partners rows ld rd p)
     (was : (d : ℕ) → Chain rows ld d → (beta rows 3 d ≡ cond un (p d) 0) × (beta rows 3 (p d) ≡ cond un d 0)) where
   pub nr : rd ≢ 0
   nr e = q .real ld first (q .starts ∙ e)
 
-  inj : (i a b : ℕ) → i < 2 → beta rows i a ≡ beta rows i b → beta rows i a ≢ 0 → a ≡ b
-  inj i a b h e n = sym (s .back i a (omega arith) n) ∙ ap (λ (x : ℕ). beta rows (opp i) x) e ∙ s .back i b (omega arith) (λ z. n (e ∙ z))
+  -- as long as the chain goes on, and is not round, partners go back
+  pub along : (t : ℕ) → ((u : ℕ) → u < t → (far rows 1 (suc u) ld ≢ 0) × (ClosedChain rows ld → far rows 1 (suc u) ld ≢ ld)) →
+      p (far rows 1 t ld) ≡ far rows 0 t rd
+  along zero g = rw (far-zero rows 1 ld, far-zero rows 0 rd) (q .starts)
+  along (suc t) g =
+      let h = g t (omega arith) in
+      let n : far rows 1 t ld ≢ 0 = far-real rows s 1 (omega arith) t (suc t) ld (omega arith) (h .0) in
+      let st =
+      q .facing .steps (far rows 1 t ld) (chain-far rows s ld 1 (omega arith) t n) (λ z. h .0 (far-last rows 1 t ld ∙ z))
+      (λ k z. h .1 k (far-last rows 1 t ld ∙ z)) in
+      rw (far-last rows 1 t ld, far-last rows 0 t rd) (sym st ∙ ap (λ (y : ℕ). beta rows 0 y) (along t (λ u k. g u (omega arith))))
 
-  pub up-pair : (d x : ℕ) → Chain rows ld d → p d ≡ x → beta rows 1 d ≢ 0 → (Closed rows ld → beta rows 1 d ≢ ld) → Chain rows ld (beta rows 1 d) × (p (beta rows 1 d) ≡ beta rows 0 x)
-  up-pair d x c e n o = (on c n, sym (q .facing .steps d c n o) ∙ ap (λ (y : ℕ). beta rows 0 y) e)
-
-  down-pair : (d x : ℕ) → Chain rows ld d → p d ≡ x → beta rows 0 d ≢ 0 → (Closed rows ld → ⊥) → Chain rows ld (beta rows 0 d) × (p (beta rows 0 d) ≡ beta rows 1 x)
+  down-pair : (d x : ℕ) → Chain rows ld d → p d ≡ x → beta rows 0 d ≢ 0 → (ClosedChain rows ld → ⊥) →
+      Chain rows ld (beta rows 0 d) × (p (beta rows 0 d) ≡ beta rows 1 x)
   down-pair d x c e n o =
       let b : beta rows 1 (beta rows 0 d) ≡ d = s .back 0 d (omega arith) n in
       let c′ : Chain rows ld (beta rows 0 d) = back c n in
@@ -65,40 +77,36 @@ module _ (un : Bool) (rows : List ℕ) (ld rd : ℕ) (p : ℕ → ℕ) (s : Well
   r₁ = beta rows 0 rd
 
   abbrev Run₁ : ℕ → Type 0
-  Run₁ n = Run un rows 1 0 ld l₁ n
+  Run₁ n = Run rows 1 ld l₁ n
 
   fewer₁ : (u v : ℕ) → u ≤ v → Run₁ v → Run₁ u
   fewer₁ u v h g w k = g w (omega arith)
 
+  real₁ : (u : ℕ) → Run₁ (suc u) → far rows 1 (suc u) ld ≢ 0
+  real₁ u g z = g u (omega arith) .0 (sym (far-suc rows 1 u ld) ∙ z)
+
   chain₁ : (u : ℕ) → Run₁ (suc u) → Chain rows ld (far rows 1 u l₁) × (p (far rows 1 u l₁) ≡ far rows 0 u r₁)
-  chain₁ zero g =
-      let a = g 0 (omega arith) in
-      rw (far-zero rows 1 l₁, far-zero rows 0 r₁)
-      (up-pair ld rd first (q .starts) (λ z. a .0 (far-zero rows 1 l₁ ∙ z)) (λ k z. a .1 (far-zero rows 1 l₁ ∙ z)))
-  chain₁ (suc u) g =
-      let c = chain₁ u (fewer₁ (suc u) (suc (suc u)) (omega arith) g) in
-      let a = g (suc u) (omega arith) in
-      rw (far-last rows 1 u l₁, far-last rows 0 u r₁)
-      (up-pair (far rows 1 u l₁) (far rows 0 u r₁) (c .0) (c .1) (λ z. a .0 (far-last rows 1 u l₁ ∙ z)) (λ k z. a .1 (far-last rows 1 u l₁ ∙ z)))
+  chain₁ u g = (
+    rw (far-suc rows 1 u ld) at (chain-far rows s ld 1 (omega arith) (suc u) (real₁ u g)),
+    rw (far-suc rows 1 u ld, far-suc rows 0 u rd) at
+        (along (suc u) (λ w k. (real₁ w (fewer₁ (suc w) (suc u) (omega arith) g), λ c z. g w k .1 (sym (far-suc rows 1 w ld) ∙ z)))),
+  )
 
   diff₁ : (u v : ℕ) → u < v → Run₁ (suc v) → far rows 1 u l₁ ≢ far rows 1 v l₁
-  diff₁ u zero h g e = absurd (omega arith)
-  diff₁ zero (suc v) h g e =
-      g v (omega arith) .1
-      (sym (inj 1 ld (far rows 1 v l₁) (omega arith) (sym (far-zero rows 1 l₁) ∙ e ∙ far-last rows 1 v l₁) (λ z. g 0 (omega arith) .0 (far-zero rows 1 l₁ ∙ z))))
-  diff₁ (suc u) (suc v) h g e =
-      diff₁ u v (omega arith) (fewer₁ (suc v) (suc (suc v)) (omega arith) g)
-      (inj 1 (far rows 1 u l₁) (far rows 1 v l₁) (omega arith) (sym (far-last rows 1 u l₁) ∙ e ∙ far-last rows 1 v l₁) (λ z. g (suc u) (omega arith) .0 (far-last rows 1 u l₁ ∙ z)))
+  diff₁ u v h g e =
+      let k : suc v - suc u ≡ suc (v - suc u) = omega arith in
+      let r = far-again rows s 1 (omega arith) (suc u) (suc v) ld (omega arith) (real₁ v g) (far-suc rows 1 u ld ∙ e ∙ sym (far-suc rows 1 v ld)) in
+      g (v - suc u) (omega arith) .1 (sym (far-suc rows 1 (v - suc u) ld) ∙ ap (λ (t : ℕ). far rows 1 t ld) (sym k) ∙ r)
 
   abbrev rows₁ : List ℕ
-  rows₁ = set (set rows (cell 3 ld) (cond un 0 rd)) (cell 3 rd) (cond un 0 ld)
+  rows₁ = paired un rows 3 ld rd
 
-  pub pair₁ : Changed un rows ld rd rows₁
+  pair₁ : Changed un rows ld rd rows₁
   pair₁ =
       record {
         was-l = was ld first .0 ∙ ap (λ (y : ℕ). cond un y 0) (q .starts);
         was-r = ap (λ (y : ℕ). beta rows 3 y) (sym (q .starts)) ∙ was ld first .1;
-        apart = λ e. q .outside ld first (subst (λ (y : ℕ). Chain rows ld y) (e ∙ sym (q .starts)) first);
+        apart = λ h e. q .outside ld first (subst (λ (y : ℕ). Chain rows ld y) (e ∙ sym (q .starts)) first);
         real = nr;
         put = refl;
       }
@@ -124,7 +132,8 @@ module _ (un : Bool) (rows : List ℕ) (ld rd : ℕ) (p : ℕ → ℕ) (s : Well
         was-l =
             λ u g.
             let a = chain₁ u g in
-            still₁ _ (g u (omega arith) .1) (λ e. q .outside ld first (subst (λ (y : ℕ). Chain rows ld y) (e ∙ sym (q .starts)) (a .0))) ∙ was _ (a .0) .0 ∙ ap (λ (y : ℕ). cond un y 0) (a .1);
+            still₁ _ (g u (omega arith) .1) (λ e. q .outside ld first (subst (λ (y : ℕ). Chain rows ld y) (e ∙ sym (q .starts)) (a .0))) ∙ was _ (a .0) .0
+            ∙ ap (λ (y : ℕ). cond un y 0) (a .1);
         was-r =
             λ u g.
             let a = chain₁ u g in
@@ -155,19 +164,15 @@ module _ (un : Bool) (rows : List ℕ) (ld rd : ℕ) (p : ℕ → ℕ) (s : Well
     end-front = sym (v .end-l) ∙ zl
 
     in-chain : (t : ℕ) → t < suc m → Chain rows ld (far rows 1 t ld)
-    in-chain zero h = rw (far-zero rows 1 ld) first
-    in-chain (suc t) h = rw (far-last rows 1 t ld) (on (in-chain t (omega arith)) (λ z. v .real-l (suc t) h (far-last rows 1 t ld ∙ z)))
+    in-chain t h = chain-far rows s ld 1 (omega arith) t (v .real-l t h)
 
-    not-closed : Closed rows ld → ⊥
+    not-closed : ClosedChain rows ld → ⊥
     not-closed k = k .never-null _ (in-chain m (omega arith)) (sym (far-last rows 1 m ld) ∙ end-front)
 
     pub partner : (t : ℕ) → t < suc m → p (far rows 1 t ld) ≡ far rows 0 t rd
-    partner zero h = rw (far-zero rows 1 ld, far-zero rows 0 rd) (q .starts)
-    partner (suc t) h =
-        rw (far-last rows 1 t ld, far-last rows 0 t rd)
-        (up-pair _ _ (in-chain t (omega arith)) (partner t (omega arith)) (λ z. v .real-l (suc t) h (far-last rows 1 t ld ∙ z)) (λ k. absurd (not-closed k)) .1)
+    partner t h = along t (λ u k. (v .real-l (suc u) (omega arith), λ c. absurd (not-closed c)))
 
-    pub null-for-null : w .leg .r ≡ 0
+    null-for-null : w .leg .r ≡ 0
     null-for-null =
         v .end-r
         ∙ far-last rows 0 m rd
@@ -175,16 +180,8 @@ module _ (un : Bool) (rows : List ℕ) (ld rd : ℕ) (p : ℕ → ℕ) (s : Well
         ∙ q .facing .ends _ (in-chain m (omega arith)) (sym (far-last rows 1 m ld) ∙ end-front)
 
     -- the chain does not come back to ld
-    no-return : (t : ℕ) → t < suc m → far rows 1 (suc t) ld ≢ ld
-    no-return t h e =
-        by-cases (decLt (suc t) (suc m))
-        (λ (a : suc t < suc m).
-        let x : ℕ = suc m - suc t in
-        let k : suc t + x ≡ suc m = omega arith in
-        v .real-l x (omega arith) (sym (ap (λ (y : ℕ). far rows 1 x y) e) ∙ sym (far-plus rows 1 (suc t) x ld) ∙ ap (λ (y : ℕ). far rows 1 y ld) k ∙ end-front))
-        (λ (a : suc t < suc m → ⊥).
-        let k : suc t ≡ suc m = omega arith in
-        nl (sym e ∙ ap (λ (y : ℕ). far rows 1 y ld) k ∙ end-front))
+    no-return : (t : ℕ) → far rows 1 (suc t) ld ≢ ld
+    no-return t e = round-real rows s 1 (omega arith) t ld nl e (suc m) end-front
 
     abbrev pub l₂ : ℕ
     l₂ = beta rows 0 ld
@@ -193,7 +190,7 @@ module _ (un : Bool) (rows : List ℕ) (ld rd : ℕ) (p : ℕ → ℕ) (s : Well
     r₂ = beta rows 1 rd
 
     abbrev pub Run₂ : ℕ → Type 0
-    Run₂ n = Run un rows 0 1 0 l₂ n
+    Run₂ n = Run rows 0 0 l₂ n
 
     fewer₂ : (u x : ℕ) → u ≤ x → Run₂ x → Run₂ u
     fewer₂ u x h g y k = g y (omega arith)
@@ -209,29 +206,27 @@ module _ (un : Bool) (rows : List ℕ) (ld rd : ℕ) (p : ℕ → ℕ) (s : Well
         (down-pair (far rows 0 u l₂) (far rows 1 u r₂) (c .0) (c .1) (λ z. a .0 (far-last rows 0 u l₂ ∙ z)) not-closed)
 
     -- a dart behind ld is none from ld on
+    real₂ : (u : ℕ) → Run₂ (suc u) → far rows 0 (suc u) ld ≢ 0
+    real₂ u g z = g u (omega arith) .0 (sym (far-suc rows 0 u ld) ∙ z)
+
     behind : (u t : ℕ) → Run₂ (suc u) → t < suc m → far rows 0 u l₂ ≢ far rows 1 t ld
-    behind zero t g h e =
-        let n : beta rows 0 ld ≢ 0 = λ z. g 0 (omega arith) .0 (far-zero rows 0 l₂ ∙ z) in
-        no-return t h (far-last rows 1 t ld ∙ ap (λ (y : ℕ). beta rows 1 y) (sym e ∙ far-zero rows 0 l₂) ∙ s .back 0 ld (omega arith) n)
-    behind (suc u) t g h e =
-        let n : beta rows 0 (far rows 0 u l₂) ≢ 0 = λ z. g (suc u) (omega arith) .0 (far-last rows 0 u l₂ ∙ z) in
-        let b : far rows 1 (suc t) ld ≡ far rows 0 u l₂ =
-        far-last rows 1 t ld ∙ ap (λ (y : ℕ). beta rows 1 y) (sym e ∙ far-last rows 0 u l₂) ∙ s .back 0 (far rows 0 u l₂) (omega arith) n in
-        by-cases (decLt (suc t) (suc m))
-        (λ (a : suc t < suc m). behind u (suc t) (fewer₂ (suc u) (suc (suc u)) (omega arith) g) a (sym b))
-        (λ (a : suc t < suc m → ⊥).
-        let k : suc t ≡ suc m = omega arith in
-        g u (omega arith) .0 (sym b ∙ ap (λ (y : ℕ). far rows 1 y ld) k ∙ end-front))
+    behind u t g h e =
+        let k : t + suc u ≡ suc (t + u) = omega arith in
+        no-return (t + u)
+        (ap (λ (x : ℕ). far rows 1 x ld) (sym k)
+        ∙ far-plus rows 1 t (suc u) ld
+        ∙ ap (far rows 1 (suc u)) (sym e ∙ sym (far-suc rows 0 u ld))
+        ∙ far-undo rows s 0 (omega arith) (suc u) ld (real₂ u g))
 
     diff₂ : (u x : ℕ) → u < x → Run₂ (suc x) → far rows 0 u l₂ ≢ far rows 0 x l₂
-    diff₂ u zero h g e = absurd (omega arith)
-    diff₂ zero (suc x) h g e =
-        behind x 0 (fewer₂ (suc x) (suc (suc x)) (omega arith) g) (omega arith)
-        (sym (inj 0 ld (far rows 0 x l₂) (omega arith) (sym (far-zero rows 0 l₂) ∙ e ∙ far-last rows 0 x l₂) (λ z. g 0 (omega arith) .0 (far-zero rows 0 l₂ ∙ z)))
-        ∙ sym (far-zero rows 1 ld))
-    diff₂ (suc u) (suc x) h g e =
-        diff₂ u x (omega arith) (fewer₂ (suc x) (suc (suc x)) (omega arith) g)
-        (inj 0 (far rows 0 u l₂) (far rows 0 x l₂) (omega arith) (sym (far-last rows 0 u l₂) ∙ e ∙ far-last rows 0 x l₂) (λ z. g (suc u) (omega arith) .0 (far-last rows 0 u l₂ ∙ z)))
+    diff₂ u x h g e =
+        let k : suc x - suc u ≡ suc (x - suc u) = omega arith in
+        let r : far rows 0 (suc x - suc u) ld ≡ ld =
+        far-again rows s 0 (omega arith) (suc u) (suc x) ld (omega arith) (real₂ x g) (far-suc rows 0 u ld ∙ e ∙ sym (far-suc rows 0 x ld)) in
+        no-return (x - suc u)
+        (ap (λ (t : ℕ). far rows 1 t ld) (sym k)
+        ∙ ap (far rows 1 (suc x - suc u)) (sym r)
+        ∙ far-undo rows s 0 (omega arith) (suc x - suc u) ld (λ z. nl (sym r ∙ z)))
 
     fresh₂ : Fresh un rows 0 1 0 (w .rows) l₂ r₂
     fresh₂ =
@@ -251,7 +246,8 @@ module _ (un : Bool) (rows : List ℕ) (ld rd : ℕ) (p : ℕ → ℕ) (s : Well
           was-l =
               λ u g.
               let a = chain₂ u g in
-              v .other _ (λ t h. (behind u t g h, λ e. q .outside _ (in-chain t h) (subst (λ (y : ℕ). Chain rows ld y) (e ∙ sym (partner t h)) (a .0)))) ∙ was _ (a .0) .0 ∙ ap (λ (y : ℕ). cond un y 0) (a .1);
+              v .other _ (λ t h. (behind u t g h, λ e. q .outside _ (in-chain t h) (subst (λ (y : ℕ). Chain rows ld y) (e ∙ sym (partner t h)) (a .0))))
+              ∙ was _ (a .0) .0 ∙ ap (λ (y : ℕ). cond un y 0) (a .1);
           was-r =
               λ u g.
               let a = chain₂ u g in
@@ -298,12 +294,12 @@ module _ (un : Bool) (rows : List ℕ) (ld rd : ℕ) (p : ℕ → ℕ) (s : Well
 
 -- a matching, and a chain whose darts face their images, are such partners
 
-pub link-faced : (rows : List ℕ) (ld rd : ℕ) (p : ℕ → ℕ) → Matching rows ld rd p → Faced rows ld rd p
-link-faced rows ld rd p q =
+pub link-partners : (rows : List ℕ) (ld rd : ℕ) (p : ℕ → ℕ) → Matching rows ld rd p → Partners rows ld rd p
+link-partners rows ld rd p q =
     record { starts = q .starts; facing = q .facing; real = λ d c. q .real d c .0; outside = q .outside; different = q .different }
 
-pub unlink-faced : (rows : List ℕ) (ld rd : ℕ) → WellFormed rows → rd ≡ beta rows 3 ld → Unlinkable rows ld → Faced rows ld rd (λ d. beta rows 3 d)
-unlink-faced rows ld rd s e q =
+unlink-partners : (rows : List ℕ) (ld rd : ℕ) → WellFormed rows → rd ≡ beta rows 3 ld → Unlinkable rows ld → Partners rows ld rd (λ d. beta rows 3 d)
+unlink-partners rows ld rd s e q =
     record {
       starts = sym e;
       facing = q .facing;
@@ -316,7 +312,7 @@ unlink-faced rows ld rd s e q =
 module _ (rows : List ℕ) (ld rd : ℕ) (s : WellFormed rows) (nl : ld ≢ 0) (hl : ld < darts rows) where
   pub link-asked : (p : ℕ → ℕ) → rd < darts rows → Matching rows ld rd p → isDone (threeLinkOn rows ld rd .answer) ≡ true
   link-asked p hr q =
-      let f = link-faced rows ld rd p q in
+      let f = link-partners rows ld rd p q in
       ap (λ (o : Out). isDone (o .answer)) (sym (on-link rows ld rd (nr false rows ld rd p s nl hl hr f (q .free))))
       ∙ asked false rows ld rd p s nl hl hr f (q .free) 0
 
@@ -324,5 +320,5 @@ module _ (rows : List ℕ) (ld rd : ℕ) (s : WellFormed rows) (nl : ld ≢ 0) (
   unlink-asked e nr′ q =
       let hr : rd < darts rows = rw e (s .below 3 ld) in
       ap (λ (o : Out). isDone (o .answer)) (sym (on-unlink rows ld rd s e nr′))
-      ∙ asked true rows ld rd (λ d. beta rows 3 d) s nl hl hr (unlink-faced rows ld rd s e q)
+      ∙ asked true rows ld rd (λ d. beta rows 3 d) s nl hl hr (unlink-partners rows ld rd s e q)
       (λ d c. (refl, s .back 3 d (omega arith) (q .real d c))) rd

@@ -1,5 +1,5 @@
 -- What the 3-link and the 3-unlink promise, without their walks. `Matching`, `Linked`, `Unlinkable` and `Unlinked` are those of
--- `specs/Matching.antt`; `Real rows a b` (`specs/Calls.antt` of the crate `links`) says that rows are a map and a and b real darts of it.
+-- `specs/Matching.antt`; `Real rows a b` (`specs/Calls.antt` of the crate `link_walk`) says that rows are a map and a and b real darts of it.
 --
 --   of the calls
 --   call-succeeds         a 3-link is done exactly where there is a matching
@@ -30,7 +30,7 @@ use Rattle.map_betas.specs.declared.error.Answer.{Answer}
 use Rattle.map_betas.specs.declared.error.Answer.the-variants.{Done, Refused}
 use Rattle.map_betas.specs.declared.error.Refusal.the-variants.{AlreadyFree, AsymmetricalFaces}
 use Rattle.map_betas.specs.Betas.{beta, darts}
-use Rattle.map_betas.specs.Answers.{Out, out, pass, isDone, tellOf}
+use Rattle.map_betas.specs.Answers.{Out, out, Outcome, outcome, given, pass, isDone, tellOf}
 use Rattle.map_betas.specs.Maps.{WellFormed}
 use Rattle.link_walk.specs.Three.{threeLinkOn, threeUnlinkOn}
 use Rattle.link_walk.specs.Calls.{Real, threeLink, threeUnlink}
@@ -48,7 +48,10 @@ use Rattle.link_glue.proofs.UnlinkAnswers.{unlink-answers}
 
 module _ (rows : List ℕ) (ld rd : ℕ) (s : WellFormed rows) (hl : ld < darts rows) (nl : ld ≢ 0) (hr : rd < darts rows) (nr : rd ≢ 0) where
   pub succeeds : ((p : ℕ → ℕ) × Matching rows ld rd p) ↔ (isDone (threeLinkOn rows ld rd .answer) ≡ true)
-  succeeds = ((λ x. link-asked rows ld rd s nl hl (x .0) hr (x .1)), (λ t. ((λ d. beta (threeLinkOn rows ld rd .rows) 3 d), link-found rows ld rd s hl nl hr nr t .0)))
+  succeeds = (
+    (λ x. link-asked rows ld rd s nl hl (x .0) hr (x .1)),
+    (λ t. ((λ d. beta (threeLinkOn rows ld rd .rows) 3 d), link-found rows ld rd s hl nl hr nr t .0)),
+  )
 
   pub matching-unique : (p q : ℕ → ℕ) → Matching rows ld rd p → Matching rows ld rd q → (d : ℕ) → Chain rows ld d → p d ≡ q d
   matching-unique = unique rows ld rd s nl hl hr
@@ -77,7 +80,8 @@ module _ (rows : List ℕ) (ld : ℕ) (s : WellFormed rows) (hl : ld < darts row
   done-says o (inl e) t = e
   done-says o (inr e) t = absurd (true≢false (sym t ∙ ap (λ (x : Out). isDone (x .answer)) e))
 
-  else-says : (o : Out) → (o .answer ≡ Done rd 0) ⊎ (o ≡ out (Refused (AsymmetricalFaces ld rd)) rows) → isDone (o .answer) ≡ false → o ≡ out (Refused (AsymmetricalFaces ld rd)) rows
+  else-says : (o : Out) → (o .answer ≡ Done rd 0) ⊎ (o ≡ out (Refused (AsymmetricalFaces ld rd)) rows) → isDone (o .answer) ≡ false →
+      o ≡ out (Refused (AsymmetricalFaces ld rd)) rows
   else-says o (inl e) t = absurd (true≢false (sym (ap isDone e) ∙ t))
   else-says o (inr e) t = e
 
@@ -114,24 +118,24 @@ module _ (rows : List ℕ) (ld : ℕ) (s : WellFormed rows) (hl : ld < darts row
 -- the calls
 
 module _ (rows : List ℕ) (ld rd : ℕ) where
-  pub call-undoes : isDone (threeLink rows ld rd .answer) ≡ true → threeUnlink (threeLink rows ld rd .rows) ld ≡ out (Done rd 0) rows
+  pub call-undoes : isDone (threeLink rows ld rd .answer) ≡ true → threeUnlink (threeLink rows ld rd .loans) ld ≡ outcome (Done rd 0) rows
   unfolding threeLink threeUnlink
   call-undoes t =
-      let p = through rows ld rd (threeLinkOn rows ld rd) t in
+      let p = through rows ld rd (given (threeLinkOn rows ld rd)) t in
       let h = p .0 in
       let l = h .1 in
       let r = h .3 in
-      let v = restored rows ld rd (h .0) (h .2) (omega arith) (h .4) (omega arith) (ap (λ (o : Out). isDone (o .answer)) (sym (p .1)) ∙ t) in
+      let v = restored rows ld rd (h .0) (h .2) (omega arith) (h .4) (omega arith) (ap (λ (o : Outcome (List ℕ)). isDone (o .answer)) (sym (p .1)) ∙ t) in
       let k : length (threeLinkOn rows ld rd .rows) ≡ length rows = v .1 in
       let hl = h .2 in
       let next : Real (threeLinkOn rows ld rd .rows) ld ld = (v .0, l, omega arith, l, omega arith) in
-      rw (p .1) (inside (threeLinkOn rows ld rd .rows) ld ld (threeUnlinkOn (threeLinkOn rows ld rd .rows) ld) next ∙ v .2)
+      rw (p .1) (inside (threeLinkOn rows ld rd .rows) ld ld (given (threeUnlinkOn (threeLinkOn rows ld rd .rows) ld)) next ∙ ap given (v .2))
 
   module _ (h : Real rows ld rd) where
     -- the call is its core
-    core : threeLink rows ld rd ≡ threeLinkOn rows ld rd
+    core : threeLink rows ld rd ≡ given (threeLinkOn rows ld rd)
     unfolding threeLink
-    core = inside rows ld rd (threeLinkOn rows ld rd) h
+    core = inside rows ld rd (given (threeLinkOn rows ld rd)) h
 
     nl : ld ≢ 0
     nl = let a = h .1 in omega arith
@@ -145,35 +149,36 @@ module _ (rows : List ℕ) (ld rd : ℕ) where
     pub call-matching-unique : (p q : ℕ → ℕ) → Matching rows ld rd p → Matching rows ld rd q → (d : ℕ) → Chain rows ld d → p d ≡ q d
     call-matching-unique = unique rows ld rd (h .0) nl (h .2) (h .4)
 
-    pub call-links : (p : ℕ → ℕ) → Matching rows ld rd p → Linked rows ld p (threeLink rows ld rd .rows)
+    pub call-links : (p : ℕ → ℕ) → Matching rows ld rd p → Linked rows ld p (threeLink rows ld rd .loans)
     call-links p q = rw core (links rows ld rd (h .0) (h .2) nl (h .4) nr p q)
 
     pub call-links-what : isDone (threeLink rows ld rd .answer) ≡ true →
-        Matching rows ld rd (λ d. beta (threeLink rows ld rd .rows) 3 d) × Linked rows ld (λ d. beta (threeLink rows ld rd .rows) 3 d) (threeLink rows ld rd .rows)
-    call-links-what t = rw core (link-found rows ld rd (h .0) (h .2) nl (h .4) nr (ap (λ (o : Out). isDone (o .answer)) (sym core) ∙ t))
+        Matching rows ld rd (λ d. beta (threeLink rows ld rd .loans) 3 d) × Linked rows ld (λ d. beta (threeLink rows ld rd .loans) 3 d)
+        (threeLink rows ld rd .loans)
+    call-links-what t = rw core (link-found rows ld rd (h .0) (h .2) nl (h .4) nr (ap (λ (o : Outcome (List ℕ)). isDone (o .answer)) (sym core) ∙ t))
 
     pub call-says : isDone (threeLink rows ld rd .answer) ≡ true → threeLink rows ld rd .answer ≡ pass
-    call-says t = rw core (says rows ld rd (h .0) (h .2) nl (h .4) nr (ap (λ (o : Out). isDone (o .answer)) (sym core) ∙ t))
+    call-says t = rw core (says rows ld rd (h .0) (h .2) nl (h .4) nr (ap (λ (o : Outcome (List ℕ)). isDone (o .answer)) (sym core) ∙ t))
 
 module _ (rows : List ℕ) (ld : ℕ) (h : Real rows ld ld) where
-  unlink-core : threeUnlink rows ld ≡ threeUnlinkOn rows ld
+  unlink-core : threeUnlink rows ld ≡ given (threeUnlinkOn rows ld)
   unfolding threeUnlink
-  unlink-core = inside rows ld ld (threeUnlinkOn rows ld) h
+  unlink-core = inside rows ld ld (given (threeUnlinkOn rows ld)) h
 
   real-ld : ld ≢ 0
   real-ld = let a = h .1 in omega arith
 
-  pub call-free : beta rows 3 ld ≡ 0 → threeUnlink rows ld ≡ out (Refused (AlreadyFree 3 ld)) rows
-  call-free z = unlink-core ∙ free rows ld (h .0) (h .2) real-ld z
+  pub call-free : beta rows 3 ld ≡ 0 → threeUnlink rows ld ≡ outcome (Refused (AlreadyFree 3 ld)) rows
+  call-free z = unlink-core ∙ ap given (free rows ld (h .0) (h .2) real-ld z)
 
   pub call-unlinks-iff : beta rows 3 ld ≢ 0 → (Unlinkable rows ld) ↔ (threeUnlink rows ld .answer ≡ Done (beta rows 3 ld) 0)
   call-unlinks-iff n = rw unlink-core (unlinks-iff rows ld (h .0) (h .2) real-ld n)
 
-  pub call-unlinks : beta rows 3 ld ≢ 0 → isDone (threeUnlink rows ld .answer) ≡ true → Unlinked rows ld (threeUnlink rows ld .rows)
-  call-unlinks n t = rw unlink-core (unlinks rows ld (h .0) (h .2) real-ld n (ap (λ (o : Out). isDone (o .answer)) (sym unlink-core) ∙ t))
+  pub call-unlinks : beta rows 3 ld ≢ 0 → isDone (threeUnlink rows ld .answer) ≡ true → Unlinked rows ld (threeUnlink rows ld .loans)
+  call-unlinks n t = rw unlink-core (unlinks rows ld (h .0) (h .2) real-ld n (ap (λ (o : Outcome (List ℕ)). isDone (o .answer)) (sym unlink-core) ∙ t))
 
-  pub call-uneven : beta rows 3 ld ≢ 0 → (Unlinkable rows ld → ⊥) → threeUnlink rows ld ≡ out (Refused (AsymmetricalFaces ld (beta rows 3 ld))) rows
-  call-uneven n u = unlink-core ∙ uneven rows ld (h .0) (h .2) real-ld n u
+  pub call-uneven : beta rows 3 ld ≢ 0 → (Unlinkable rows ld → ⊥) → threeUnlink rows ld ≡ outcome (Refused (AsymmetricalFaces ld (beta rows 3 ld))) rows
+  call-uneven n u = unlink-core ∙ ap given (uneven rows ld (h .0) (h .2) real-ld n u)
 
   pub call-names-ld : (i d : ℕ) → threeUnlink rows ld .answer ≡ Refused (AlreadyFree i d) → (i ≡ 3) × (d ≡ ld) × (beta rows 3 ld ≡ 0)
-  call-names-ld i d e = names-ld rows ld (h .0) (h .2) real-ld i d (ap (λ (o : Out). o .answer) (sym unlink-core) ∙ e)
+  call-names-ld i d e = names-ld rows ld (h .0) (h .2) real-ld i d (ap (λ (o : Outcome (List ℕ)). o .answer) (sym unlink-core) ∙ e)

@@ -22,8 +22,8 @@ use Rattle.link_walk.proofs.StepLaws.{Changed, left-le, changed-formed, changed
 use Rattle.link_walk.proofs.UndoLaws.{Walked, walked}
 use Rattle.link_glue.proofs.Trace.{Trace, trace-on, traced}
 use Rattle.link_glue.proofs.Success.{Success, closed, opened, link-success, unlink-success}
-use Rattle.link_glue.proofs.Covers.{Cover, cover-closed, Seen, matching, linked, unlinkable, unlinked}
-use Rattle.link_glue.proofs.OpenCover.{cover-open, Met}
+use Rattle.link_glue.proofs.Covers.{Cover, cover-closed, matching, linked, unlinkable, unlinked}
+use Rattle.link_glue.proofs.OpenCover.{cover-open}
 
 pub record Leaves (rows rows′ : List ℕ) : Type 0 where
   pub formed : WellFormed rows′
@@ -37,7 +37,8 @@ module _ (un : Bool) (entry : List ℕ) (ld rd : ℕ) (s : WellFormed entry) (hl
     leaves₁ =
         let s₁ = changed-formed un entry ld rd rows₁ s h hl hr nl in
         let g : Walked un rows₁ 1 0 (beta rows₁ 1 ld) (beta rows₁ 0 rd) 0 w =
-        rw (sym e) (walked un ld rd 1 0 ld (omega arith) (omega arith) (suc (length rows₁)) rows₁ (beta rows₁ 1 ld) (beta rows₁ 0 rd) 0 s₁ (s₁ .below 1 ld) (s₁ .below 0 rd)) in
+        rw (sym e) (walked un ld rd 1 0 ld (omega arith) (omega arith) (suc (length rows₁)) rows₁ (beta rows₁ 1 ld) (beta rows₁ 0 rd) 0 s₁ (s₁ .below 1 ld)
+        (s₁ .below 0 rd)) in
         record {
           formed = g .formed;
           long = g .long ∙ changed-length un entry ld rd rows₁ s h hl hr nl;
@@ -65,7 +66,8 @@ module _ (un : Bool) (entry : List ℕ) (ld rd : ℕ) (s : WellFormed entry) (hl
           let a = leaves₁ in
           let f = a .formed in
           let g : Walked un (w .rows) 0 1 (beta (w .rows) 0 ld) (beta (w .rows) 1 rd) 0 u =
-          rw (sym e₂) (walked un ld rd 0 1 0 (omega arith) (omega arith) (suc (length (w .rows))) (w .rows) (beta (w .rows) 0 ld) (beta (w .rows) 1 rd) 0 f (f .below 0 ld) (f .below 1 rd)) in
+          rw (sym e₂) (walked un ld rd 0 1 0 (omega arith) (omega arith) (suc (length (w .rows))) (w .rows) (beta (w .rows) 0 ld) (beta (w .rows) 1 rd) 0 f
+          (f .below 0 ld) (f .below 1 rd)) in
           record { formed = g .formed; long = g .long ∙ a .long; low = λ b d hb. g .alike b d hb ∙ a .low b d hb }
 
       pub trace₂ : isDone (u .leg .answer) ≡ true → (k : ℕ) × Trace un entry 0 1 0 (w .rows) (beta entry 0 ld) (beta entry 1 rd) k u
@@ -82,29 +84,30 @@ module _ (un : Bool) (entry : List ℕ) (ld rd : ℕ) (s : WellFormed entry) (hl
           (a .formed) (omega arith) (omega arith) low e′ t (omega arith)
 
   pub found : (d : ℕ) (P : List ℕ → Type 0) →
-      ((last : List ℕ) (Been : ℕ → Type 0) → Cover entry ld rd (cond un entry last) (cond un last entry) Been → Leaves entry last → P last) →
+      ((last : List ℕ) → Cover entry ld rd (cond un entry last) (cond un last entry) → Leaves entry last → P last) →
       (o : Out) → Success un d entry ld rd o → P (o .rows)
   found d P k o (closed rows₁ h w e t z q) =
       let v = trace₁ rows₁ h w e t in
       let y : w .leg .l ≡ ld = ⊎-elim (λ a. absurd (z a)) (λ a. a) (v .1 .ended) in
-      rw q (k (w .rows) (Seen un entry ld rd s nl (v .0) w (v .1) y) (cover-closed un entry ld rd s nl (v .0) w (v .1) y) (leaves₁ rows₁ h w e))
+      rw q (k (w .rows) (cover-closed un entry ld rd s nl (v .0) w (v .1) y) (leaves₁ rows₁ h w e))
   found d P k o (opened rows₁ h w e t zl zr u e₂ t₂ q) =
       let v = trace₁ rows₁ h w e t in
       let x = trace₂ rows₁ h w e u e₂ t₂ in
-      rw q
-      (k (u .rows) (Met un entry ld rd s nl (v .0) w (v .1) zl zr (x .0) u (x .1)) (cover-open un entry ld rd s nl (v .0) w (v .1) zl zr (x .0) u (x .1)) (leaves₂ rows₁ h w e u e₂))
+      rw q (k (u .rows) (cover-open un entry ld rd s nl (v .0) w (v .1) zl zr (x .0) u (x .1)) (leaves₂ rows₁ h w e u e₂))
 
 module _ (rows : List ℕ) (ld rd : ℕ) (s : WellFormed rows) (hl : ld < darts rows) (nl : ld ≢ 0) where
   pub link-found : rd < darts rows → rd ≢ 0 → isDone (threeLinkOn rows ld rd .answer) ≡ true →
-      Matching rows ld rd (λ d. beta (threeLinkOn rows ld rd .rows) 3 d) × Linked rows ld (λ d. beta (threeLinkOn rows ld rd .rows) 3 d) (threeLinkOn rows ld rd .rows)
+      Matching rows ld rd (λ d. beta (threeLinkOn rows ld rd .rows) 3 d)
+      × Linked rows ld (λ d. beta (threeLinkOn rows ld rd .rows) 3 d) (threeLinkOn rows ld rd .rows)
   link-found hr nr t =
       found false rows ld rd s hl nl hr 0 (λ last. Matching rows ld rd (λ d. beta last 3 d) × Linked rows ld (λ d. beta last 3 d) last)
-      (λ last Been c a. (matching rows ld rd last Been c (a .formed) (a .long), linked rows ld rd last Been c (a .low)))
+      (λ last c a. (matching rows ld rd last c (a .formed) (a .long), linked rows ld rd last c (a .low)))
       (threeLinkOn rows ld rd) (link-success rows ld rd s nl nr t)
 
-  pub unlink-found : rd ≡ beta rows 3 ld → rd ≢ 0 → isDone (threeUnlinkOn rows ld .answer) ≡ true → Unlinkable rows ld × Unlinked rows ld (threeUnlinkOn rows ld .rows)
+  pub unlink-found : rd ≡ beta rows 3 ld → rd ≢ 0 → isDone (threeUnlinkOn rows ld .answer) ≡ true →
+      Unlinkable rows ld × Unlinked rows ld (threeUnlinkOn rows ld .rows)
   unlink-found e nr t =
       let hr : rd < darts rows = rw e (s .below 3 ld) in
       found true rows ld rd s hl nl hr rd (λ last. Unlinkable rows ld × Unlinked rows ld last)
-      (λ last Been c a. (unlinkable rows ld rd last Been c, unlinked rows ld rd last Been c (a .low)))
+      (λ last c a. (unlinkable rows ld rd last c, unlinked rows ld rd last c (a .low)))
       (threeUnlinkOn rows ld) (unlink-success rows ld rd s nl e nr t)

@@ -1,67 +1,61 @@
--- A leg whose pairs ahead are real, different and still to change ends well (`finishes`), of a link and of an unlink alike. `Run` says how far the
--- left side runs, `Fresh` what the pairs ahead are, and `fresh-on` that they are so after a step. Assumes nothing.
-use Prim.Native.Nat.{ℕ, zero, suc, _-_, _<_}
+-- A leg whose pairs ahead are real, different and still to change ends well (`finishes`), of a link and of an unlink alike. `Fresh` says what the
+-- pairs ahead are, as far as the left side runs, and `fresh-on` that they are so after a step. Assumes nothing.
+use Prim.Native.Nat.{ℕ, zero, suc, _<_}
 use native.Mathlib.Omega.{arith}
 use native.Mathlib.Decide.{ℕ-discrete}
 use mathlib.Core.Path.{_≡_, refl, sym, ap, _∙_}
 use mathlib.Core.Logic.{_≢_, by-cases}
 use mathlib.Core.List.{List}
 use mathlib.Core.Bool.{Bool, true, cond}
-use lib.ListN.{set}
-use lib.Seq.{getD-set-other}
-use Rattle.map_betas.specs.Betas.{cell, beta, darts}
+use Rattle.map_betas.specs.Betas.{beta, darts}
 use Rattle.map_betas.specs.Answers.{isDone}
 use Rattle.map_betas.specs.Maps.{WellFormed}
+use Rattle.map_betas.proofs.Stores.{paired, pair-others}
+use Rattle.map_betas.specs.Chains.{far}
+use Rattle.map_betas.proofs.Chains.{Run}
 use Rattle.link_walk.specs.Walk.{stepOf, LegOut, walk}
 use Rattle.link_walk.proofs.StepLaws.{Changed, left, changed-formed, changed-low, changed-left}
 use Rattle.link_glue.proofs.Turns.{said, said-done, step-again, onto, at-null, at-stop}
-use Rattle.link_glue.proofs.Trace.{far}
 
 module _ (un : Bool) (base : List ℕ) (i j stop : ℕ) where
-  -- the first n darts from l on are real and not at the stop
-  abbrev pub Run : ℕ → ℕ → Type 0
-  Run l n = (v : ℕ) → v < n → (far base i v l ≢ 0) × (far base i v l ≢ stop)
-
   -- the pairs ahead of l and r, as far as the left side runs
   pub record Fresh (rows : List ℕ) (l r : ℕ) : Type 0 where
-    pub real-r : (u : ℕ) → Run l (suc u) → far base j u r ≢ 0
-    pub diff-l : (u v : ℕ) → u < v → Run l (suc v) → far base i u l ≢ far base i v l
-    pub diff-r : (u v : ℕ) → u < v → Run l (suc v) → far base j u r ≢ far base j v r
-    pub apart : (u v : ℕ) → Run l (suc u) → Run l (suc v) → far base i u l ≢ far base j v r
-    pub was-l : (u : ℕ) → Run l (suc u) → beta rows 3 (far base i u l) ≡ cond un (far base j u r) 0
-    pub was-r : (u : ℕ) → Run l (suc u) → beta rows 3 (far base j u r) ≡ cond un (far base i u l) 0
+    pub real-r : (u : ℕ) → Run base i stop l (suc u) → far base j u r ≢ 0
+    pub diff-l : (u v : ℕ) → u < v → Run base i stop l (suc v) → far base i u l ≢ far base i v l
+    pub diff-r : (u v : ℕ) → u < v → Run base i stop l (suc v) → far base j u r ≢ far base j v r
+    pub apart : (u v : ℕ) → Run base i stop l (suc u) → Run base i stop l (suc v) → far base i u l ≢ far base j v r
+    pub was-l : (u : ℕ) → Run base i stop l (suc u) → beta rows 3 (far base i u l) ≡ cond un (far base j u r) 0
+    pub was-r : (u : ℕ) → Run base i stop l (suc u) → beta rows 3 (far base j u r) ≡ cond un (far base i u l) 0
 
   module _ (rows : List ℕ) (l r : ℕ) (c : Fresh rows l r) (nl : l ≢ 0) (ns : l ≢ stop) where
     abbrev rows′ : List ℕ
-    rows′ = set (set rows (cell 3 l) (cond un 0 r)) (cell 3 r) (cond un 0 l)
+    rows′ = paired un rows 3 l r
 
-    run-one : Run l 1
+    run-one : Run base i stop l 1
     unfolding far
     run-one zero h = (nl, ns)
     run-one (suc v) h = absurd (omega arith)
 
-    run-on : (n : ℕ) → Run (beta base i l) n → Run l (suc n)
+    run-on : (n : ℕ) → Run base i stop (beta base i l) n → Run base i stop l (suc n)
     unfolding far
     run-on n h zero q = (nl, ns)
     run-on n h (suc v) q = h v (omega arith)
 
-    pub first-pair : Changed un rows l r rows′
+    first-pair : Changed un rows l r rows′
     unfolding far
     first-pair =
         record {
           was-l = c .was-l 0 run-one;
           was-r = c .was-r 0 run-one;
-          apart = c .apart 0 0 run-one run-one;
+          apart = λ h. c .apart 0 0 run-one run-one;
           real = c .real-r 0 run-one;
           put = refl;
         }
 
     still : (d : ℕ) → d ≢ l → d ≢ r → beta rows′ 3 d ≡ beta rows 3 d
-    still d a b =
-        getD-set-other (set rows (cell 3 l) (cond un 0 r)) (cell 3 r) (cell 3 d) (cond un 0 l) 0 (omega arith)
-        ∙ getD-set-other rows (cell 3 l) (cell 3 d) (cond un 0 r) 0 (omega arith)
+    still d a b = pair-others un rows 3 l r rows′ first-pair 3 d (omega arith) (omega arith)
 
-    pub fresh-on : Fresh rows′ (beta base i l) (beta base j r)
+    fresh-on : Fresh rows′ (beta base i l) (beta base j r)
     unfolding far
     fresh-on =
         record {
@@ -80,7 +74,8 @@ module _ (un : Bool) (base : List ℕ) (i j stop : ℕ) where
   module _ (ld rd : ℕ) (hi : i < 3) (hj : j < 3) where
     abbrev Finishes : ℕ → Type 0
     Finishes f =
-        (rows : List ℕ) (l r k : ℕ) → WellFormed rows → l < darts rows → r < darts rows → ((b d : ℕ) → b < 3 → beta rows b d ≡ beta base b d) → left un rows < f → Fresh rows l r →
+        (rows : List ℕ) (l r k : ℕ) → WellFormed rows → l < darts rows → r < darts rows → ((b d : ℕ) → b < 3 → beta rows b d ≡ beta base b d) →
+        left un rows < f → Fresh rows l r →
         isDone (walk (stepOf un ld rd) f rows i j stop l r k .leg .answer) ≡ true
 
     finish-on : (f : ℕ) → Finishes f → Finishes (suc f)
@@ -90,12 +85,13 @@ module _ (un : Bool) (base : List ℕ) (i j stop : ℕ) where
         (λ (nl : l ≢ 0). by-cases (ℕ-discrete l stop)
         (λ (e : l ≡ stop). ap (λ (w : LegOut). isDone (w .leg .answer)) (at-stop i j stop (stepOf un ld rd) f rows l r k e))
         (λ (ns : l ≢ stop).
-        let rows′ : List ℕ = set (set rows (cell 3 l) (cond un 0 r)) (cell 3 r) (cond un 0 l) in
+        let rows′ : List ℕ = paired un rows 3 l r in
         let h : Changed un rows l r rows′ = first-pair rows l r c nl ns in
         let same′ : (b d : ℕ) → b < 3 → beta rows′ b d ≡ beta base b d = λ b d hb. changed-low un rows l r rows′ s h hl hr nl b d hb ∙ same b d hb in
         let s′ : WellFormed rows′ = changed-formed un rows l r rows′ s h hl hr nl in
         let fell : left un rows′ < left un rows = changed-left un rows l r rows′ s h hl hr nl in
-        ap (λ (w : LegOut). isDone (w .leg .answer)) (onto i j stop (stepOf un ld rd) f rows l r k nl ns (said un r) rows′ (step-again un ld rd rows l r rows′ h) (said-done un r))
+        ap (λ (w : LegOut). isDone (w .leg .answer))
+        (onto i j stop (stepOf un ld rd) f rows l r k nl ns (said un r) rows′ (step-again un ld rd rows l r rows′ h) (said-done un r))
         ∙ rw (same′ i l hi, same′ j r hj)
         (ih rows′ (beta base i l) (beta base j r) (suc k) s′ (rw (← same′ i l hi) (s′ .below i l)) (rw (← same′ j r hj) (s′ .below j r)) same′ (omega arith)
         (fresh-on rows l r c nl ns))))

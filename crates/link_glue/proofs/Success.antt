@@ -22,7 +22,8 @@ use Rattle.link_walk.specs.Three.{legOn, legBack, lastLeg, afterLeg, afterCore,
 use Rattle.link_walk.proofs.StepLaws.{Changed, step-done}
 use Rattle.link_walk.proofs.ThreeLaws.{on-link, on-unlink}
 
-pub done-through : (a : Answer) (x : Out) (xs : List ℕ) → isDone (cond (isDone a) x (out a xs) .answer) ≡ true → (isDone a ≡ true) × (cond (isDone a) x (out a xs) ≡ x)
+done-through : (a : Answer) (x : Out) (xs : List ℕ) → isDone (cond (isDone a) x (out a xs) .answer) ≡ true →
+    (isDone a ≡ true) × (cond (isDone a) x (out a xs) ≡ x)
 done-through a x xs = go (isDone a) refl
   where
     go : (b : Bool) → isDone a ≡ b → isDone (cond b x (out a xs) .answer) ≡ true → (b ≡ true) × (cond b x (out a xs) ≡ x)
@@ -36,7 +37,8 @@ done-if false x y f t = absurd (true≢false (sym t ∙ f))
 pub data Success (un : Bool) (d : ℕ) (entry : List ℕ) (ld rd : ℕ) (o : Out) : Type 0 where
   closed : (rows₁ : List ℕ) → Changed un entry ld rd rows₁ → (w : LegOut) → legOn un rows₁ ld rd ≡ w → isDone (w .leg .answer) ≡ true → w .leg .l ≢ 0 →
       o ≡ out (Done d 0) (w .rows) → Success un d entry ld rd o
-  opened : (rows₁ : List ℕ) → Changed un entry ld rd rows₁ → (w : LegOut) → legOn un rows₁ ld rd ≡ w → isDone (w .leg .answer) ≡ true → w .leg .l ≡ 0 → w .leg .r ≡ 0 →
+  opened : (rows₁ : List ℕ) → Changed un entry ld rd rows₁ → (w : LegOut) → legOn un rows₁ ld rd ≡ w → isDone (w .leg .answer) ≡ true → w .leg .l ≡ 0 →
+      w .leg .r ≡ 0 →
       (u : LegOut) → legBack un (w .rows) ld rd ≡ u → isDone (u .leg .answer) ≡ true → o ≡ out (Done d 0) (u .rows) → Success un d entry ld rd o
 
 module _ (un : Bool) (d : ℕ) (entry : List ℕ) (ld rd : ℕ) where
@@ -54,7 +56,8 @@ module _ (un : Bool) (d : ℕ) (entry : List ℕ) (ld rd : ℕ) where
       let t₂ = done-if (eqb (w .leg .r) 0) last uneven refl (ap (λ (o : Out). isDone (o .answer)) (sym q) ∙ t) in
       by-cases (ℕ-discrete (w .leg .r) 0)
       (λ (y : w .leg .r ≡ 0).
-      let t₃ = done-through (legBack un (w .rows) ld rd .leg .answer) (out (Done d 0) (legBack un (w .rows) ld rd .rows)) entry (ap (λ (o : Out). isDone (o .answer)) (sym (q ∙ t₂ .1)) ∙ t) in
+      let t₃ = done-through (legBack un (w .rows) ld rd .leg .answer) (out (Done d 0) (legBack un (w .rows) ld rd .rows)) entry
+      (ap (λ (o : Out). isDone (o .answer)) (sym (q ∙ t₂ .1)) ∙ t) in
       opened rows₁ h w e (p .0) z y (legBack un (w .rows) ld rd) refl (t₃ .0) (q ∙ t₂ .1 ∙ t₃ .1))
       (λ (y : w .leg .r ≢ 0). absurd (true≢false (sym (t₂ .0) ∙ ne-eqb _ _ y))))
       (λ (z : w .leg .l ≢ 0).
@@ -65,7 +68,8 @@ module _ (un : Bool) (d : ℕ) (entry : List ℕ) (ld rd : ℕ) where
       Success un d entry ld rd (afterCore un d entry ld rd (stepOf un ld rd entry ld rd))
   success s nl = go (stepOf un ld rd entry ld rd) refl
     where
-      go : (o : Out) → o ≡ stepOf un ld rd entry ld rd → isDone (afterCore un d entry ld rd o .answer) ≡ true → Success un d entry ld rd (afterCore un d entry ld rd o)
+      go : (o : Out) → o ≡ stepOf un ld rd entry ld rd → isDone (afterCore un d entry ld rd o .answer) ≡ true →
+          Success un d entry ld rd (afterCore un d entry ld rd o)
       go o e t =
           let p = done-through (o .answer) (afterLeg un d entry ld rd (legOn un (o .rows) ld rd)) entry t in
           let h = step-done entry (o .answer) (o .rows) ld rd ld rd un s nl e (p .0) in

@@ -1,10 +1,9 @@
 -- What a leg that ends well did, pair by pair, of a link and of an unlink alike.
---   far rows i t d    the dart t steps on from d by beta i, with its laws
 --   Trace             the pairs of a leg: real, different, as they were and as they are; every other image stays
 --   trace-on          a pair before the others
 --   traced            of any leg that ends well
 -- Assumes nothing.
-use Prim.Native.Nat.{ℕ, zero, suc, _+_, _<_}
+use Prim.Native.Nat.{ℕ, zero, suc, _<_, _≤_}
 use native.Mathlib.Omega.{arith}
 use mathlib.Core.Path.{_≡_, refl, sym, ap, _∙_}
 use mathlib.Core.Logic.{_≢_, _⊎_}
@@ -13,36 +12,10 @@ use mathlib.Core.Bool.{Bool, true, false, cond}
 use Rattle.map_betas.specs.Betas.{beta, darts}
 use Rattle.map_betas.specs.Answers.{pass, isDone}
 use Rattle.map_betas.specs.Maps.{WellFormed}
+use Rattle.map_betas.specs.Chains.{far}
 use Rattle.link_walk.specs.Walk.{stepOf, LegOut, legOut, legAt, walk}
 use Rattle.link_walk.proofs.StepLaws.{Changed, step-done, left, changed-formed, changed-low, changed-l, changed-r, changed-far, changed-left}
 use Rattle.link_glue.proofs.Turns.{Turn, ends, goes, turn-of, done-of}
-
-unfoldable pub far : List ℕ → ℕ → ℕ → ℕ → ℕ
-far rows i zero d = d
-far rows i (suc t) d = far rows i t (beta rows i d)
-
-module _ (rows : List ℕ) (i : ℕ) where
-  pub far-zero : (d : ℕ) → far rows i 0 d ≡ d
-  unfolding far
-  far-zero d = refl
-
-  pub far-suc : (t d : ℕ) → far rows i (suc t) d ≡ far rows i t (beta rows i d)
-  unfolding far
-  far-suc t d = refl
-
-  -- one step more at the far end
-  pub far-last : (t d : ℕ) → far rows i (suc t) d ≡ beta rows i (far rows i t d)
-  unfolding far
-  far-last zero d = refl
-  far-last (suc t) d = far-last t (beta rows i d)
-
-  pub far-plus : (t x d : ℕ) → far rows i (t + x) d ≡ far rows i x (far rows i t d)
-  far-plus zero x d =
-      let q : 0 + x ≡ x = omega arith in
-      rw (q, far-zero d)
-  far-plus (suc t) x d =
-      let q : suc t + x ≡ suc (t + x) = omega arith in
-      rw (q, far-suc (t + x) d, far-suc t d) (far-plus t x (beta rows i d))
 
 -- no dart is both one that is still to change and one that has changed
 pub clash : (un : Bool) (x y : ℕ) → cond un x 0 ≡ cond un 0 y → x ≢ 0 → y ≢ 0 → ⊥
@@ -56,6 +29,7 @@ pub record Trace (un : Bool) (base : List ℕ) (i j stop : ℕ) (rows : List ℕ
   pub end-l : w .leg .l ≡ far base i m l
   pub end-r : w .leg .r ≡ far base j m r
   pub ended : (w .leg .l ≡ 0) ⊎ (w .leg .l ≡ stop)
+  pub few : m ≤ left un rows
   pub was-l : (t : ℕ) → t < m → beta rows 3 (far base i t l) ≡ cond un (far base j t r) 0
   pub was-r : (t : ℕ) → t < m → beta rows 3 (far base j t r) ≡ cond un (far base i t l) 0
   pub now-l : (t : ℕ) → t < m → beta (w .rows) 3 (far base i t l) ≡ cond un 0 (far base j t r)
@@ -97,7 +71,7 @@ module _ (un : Bool) (base : List ℕ) (i j stop : ℕ) (rows : List ℕ) (l r :
 
   apart-on : (t u : ℕ) → t < suc m → u < suc m → far base i t l ≢ far base j u r
   unfolding far
-  apart-on zero zero p q = h .apart
+  apart-on zero zero p q = h .apart (omega arith)
   apart-on zero (suc u) p q = λ z. right-l u (omega arith) (sym z)
   apart-on (suc t) zero p q = left-r t (omega arith)
   apart-on (suc t) (suc u) p q = v .apart t u (omega arith) (omega arith)
@@ -117,6 +91,7 @@ module _ (un : Bool) (base : List ℕ) (i j stop : ℕ) (rows : List ℕ) (l r :
         end-l = v .end-l;
         end-r = v .end-r;
         ended = v .ended;
+        few = let a = v .few in let b = changed-left un rows l r rows′ s h hl hr nl in omega arith;
         was-l =
             each (λ t. beta rows 3 (far base i t l) ≡ cond un (far base j t r) 0) (h .was-l)
             (λ t q. sym (same _ (left-l t q) (left-r t q)) ∙ v .was-l t q);
@@ -150,6 +125,7 @@ module _ (un : Bool) (base : List ℕ) (ld rd i j stop : ℕ) (hi : i < 3) (hj :
         end-l = refl;
         end-r = refl;
         ended = z;
+        few = omega arith;
         was-l = λ t q. absurd (omega arith);
         was-r = λ t q. absurd (omega arith);
         now-l = λ t q. absurd (omega arith);
@@ -159,7 +135,8 @@ module _ (un : Bool) (base : List ℕ) (ld rd i j stop : ℕ) (hi : i < 3) (hj :
         other = λ d q. refl;
       }
 
-  more : (f : ℕ) → Traced f → (rows : List ℕ) (l r k : ℕ) (w : LegOut) → WellFormed rows → l < darts rows → r < darts rows → ((b d : ℕ) → b < 3 → beta rows b d ≡ beta base b d) →
+  more : (f : ℕ) → Traced f → (rows : List ℕ) (l r k : ℕ) (w : LegOut) → WellFormed rows → l < darts rows → r < darts rows →
+      ((b d : ℕ) → b < 3 → beta rows b d ≡ beta base b d) →
       l ≢ 0 → (rows′ : List ℕ) → Changed un rows l r rows′ → walk (stepOf un ld rd) f rows′ i j stop (beta rows′ i l) (beta rows′ j r) (suc k) ≡ w →
       isDone (w .leg .answer) ≡ true → left un rows < suc f → (m : ℕ) × Trace un base i j stop rows l r m w
   more f ih rows l r k w s hl hr same nl rows′ h e t z =
@@ -168,7 +145,8 @@ module _ (un : Bool) (base : List ℕ) (ld rd i j stop : ℕ) (hi : i < 3) (hj :
       let fell = changed-left un rows l r rows′ s h hl hr nl in
       let e′ : walk (stepOf un ld rd) f rows′ i j stop (beta base i l) (beta base j r) (suc k) ≡ w = rw (same′ i l hi, same′ j r hj) at e in
       let v =
-      ih rows′ (beta base i l) (beta base j r) (suc k) w s′ (rw (← same′ i l hi) (s′ .below i l)) (rw (← same′ j r hj) (s′ .below j r)) same′ e′ t (omega arith) in
+      ih rows′ (beta base i l) (beta base j r) (suc k) w s′ (rw (← same′ i l hi) (s′ .below i l)) (rw (← same′ j r hj) (s′ .below j r)) same′ e′ t
+      (omega arith) in
       (suc (v .0), trace-on un base i j stop rows l r rows′ w s hl hr nl h (v .0) (v .1))
 
   traced-on : (f : ℕ) → Traced f → Traced (suc f)

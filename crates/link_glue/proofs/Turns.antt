@@ -14,7 +14,7 @@ use lib.ListN.{set}
 use borrow.Author.Tests.{eq-eqb, ne-eqb}
 use Rattle.map_betas.specs.declared.error.Answer.{Answer}
 use Rattle.map_betas.specs.declared.error.Answer.the-variants.{Done}
-use Rattle.map_betas.specs.Betas.{cell, beta}
+use Rattle.map_betas.specs.Betas.{place, beta}
 use Rattle.map_betas.specs.Answers.{Out, out, pass, isDone}
 use Rattle.map_betas.proofs.CoreLaws.{link-done, unlink-done}
 use Rattle.link_walk.specs.Walk.{stepOf, LegOut, legOut, legAt, walk}
@@ -28,11 +28,12 @@ pub said-done : (un : Bool) (r : ℕ) → isDone (said un r) ≡ true
 said-done true r = refl
 said-done false r = refl
 
-pub step-again : (un : Bool) (ld rd : ℕ) (rows : List ℕ) (l r : ℕ) (rows′ : List ℕ) → Changed un rows l r rows′ → out (said un r) rows′ ≡ stepOf un ld rd rows l r
+pub step-again : (un : Bool) (ld rd : ℕ) (rows : List ℕ) (l r : ℕ) (rows′ : List ℕ) → Changed un rows l r rows′ →
+    out (said un r) rows′ ≡ stepOf un ld rd rows l r
 step-again false ld rd rows l r rows′ h =
-    link-done rows 3 l r 3 (set rows (cell 3 l) r) rows′ refl (h .was-l) (h .was-r) (λ a. h .apart) refl (h .put) ∙ step-link ld rd rows l r (h .real)
+    link-done rows 3 l r 3 (set rows (place 3 l) r) rows′ refl (h .was-l) (h .was-r) (h .apart) refl (h .put) ∙ step-link ld rd rows l r (h .real)
 step-again true ld rd rows l r rows′ h =
-    unlink-done rows 3 l 3 r (set rows (cell 3 l) 0) rows′ refl (sym (h .was-l)) (h .real) refl (h .put) ∙ step-unlink ld rd rows l r (sym (h .was-r))
+    unlink-done rows 3 l 3 r (set rows (place 3 l) 0) rows′ refl (sym (h .was-l)) (h .real) refl (h .put) ∙ step-unlink ld rd rows l r (sym (h .was-r))
 
 module _ (i j stop : ℕ) (s : List ℕ → ℕ → ℕ → Out) (f : ℕ) (rows : List ℕ) (l r k : ℕ) where
   pub at-null : l ≡ 0 → walk s (suc f) rows i j stop l r k ≡ legOut (legAt pass l r k) rows
@@ -58,8 +59,10 @@ module _ (un : Bool) (ld rd i j stop : ℕ) where
 
   -- a refusal is none of the two
   pub data Turn (f : ℕ) (rows : List ℕ) (l r k : ℕ) : Type 0 where
-    ends : (l ≡ 0) ⊎ (l ≡ stop) → ((s : List ℕ → ℕ → ℕ → Out) (xs : List ℕ) → walk s (suc f) xs i j stop l r k ≡ legOut (legAt pass l r k) xs) → Turn f rows l r k
-    goes : l ≢ 0 → l ≢ stop → (rows′ : List ℕ) → Changed un rows l r rows′ → leg (suc f) rows l r k ≡ leg f rows′ (beta rows′ i l) (beta rows′ j r) (suc k) → Turn f rows l r k
+    ends : (l ≡ 0) ⊎ (l ≡ stop) → ((s : List ℕ → ℕ → ℕ → Out) (xs : List ℕ) → walk s (suc f) xs i j stop l r k ≡ legOut (legAt pass l r k) xs) →
+        Turn f rows l r k
+    goes : l ≢ 0 → l ≢ stop → (rows′ : List ℕ) → Changed un rows l r rows′ → leg (suc f) rows l r k ≡ leg f rows′ (beta rows′ i l) (beta rows′ j r) (suc k) →
+        Turn f rows l r k
 
   -- given that a step which is done changes its pair
   pub turn-of : (f : ℕ) (rows : List ℕ) (l r k : ℕ) →
@@ -78,8 +81,10 @@ module _ (un : Bool) (ld rd i j stop : ℕ) where
           (onto i j stop (stepOf un ld rd) f rows l r k nl ns (stepOf un ld rd rows l r .answer) (stepOf un ld rd rows l r .rows) refl d)
       go nl ns false d =
           absurd (true≢false (sym t
-          ∙ ap (λ (w : LegOut). isDone (w .leg .answer)) (stays i j stop (stepOf un ld rd) f rows l r k nl ns (stepOf un ld rd rows l r .answer) (stepOf un ld rd rows l r .rows) refl d)
+          ∙ ap (λ (w : LegOut). isDone (w .leg .answer))
+          (stays i j stop (stepOf un ld rd) f rows l r k nl ns (stepOf un ld rd rows l r .answer) (stepOf un ld rd rows l r .rows) refl d)
           ∙ d))
 
-  pub done-of : (f : ℕ) (rows : List ℕ) (l r k : ℕ) (w : LegOut) → leg f rows l r k ≡ w → isDone (w .leg .answer) ≡ true → isDone (leg f rows l r k .leg .answer) ≡ true
+  pub done-of : (f : ℕ) (rows : List ℕ) (l r k : ℕ) (w : LegOut) → leg f rows l r k ≡ w → isDone (w .leg .answer) ≡ true →
+      isDone (leg f rows l r k .leg .answer) ≡ true
   done-of f rows l r k w e t = ap (λ (x : LegOut). isDone (x .leg .answer)) e ∙ t

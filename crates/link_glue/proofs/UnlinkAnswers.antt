@@ -45,7 +45,8 @@ module _ (ld rd : ℕ) where
 
   module _ (i j stop : ℕ) where
     abbrev Answers : ℕ → Type 0
-    Answers f = (rows : List ℕ) (l r k : ℕ) → WellFormed rows → l < darts rows → r < darts rows → DoneOrUneven (walk (stepOf true ld rd) f rows i j stop l r k .leg .answer)
+    Answers f = (rows : List ℕ) (l r k : ℕ) → WellFormed rows → l < darts rows → r < darts rows →
+        DoneOrUneven (walk (stepOf true ld rd) f rows i j stop l r k .leg .answer)
 
     after : (f : ℕ) → Answers f → (rows : List ℕ) (l r k : ℕ) → WellFormed rows → l < darts rows → r < darts rows → l ≢ 0 → l ≢ stop →
         DoneOrUneven (walk (stepOf true ld rd) (suc f) rows i j stop l r k .leg .answer)
@@ -103,8 +104,10 @@ pub unlink-answers : (rows : List ℕ) (ld rd : ℕ) → WellFormed rows → ld 
     (threeUnlinkOn rows ld .answer ≡ Done rd 0) ⊎ (threeUnlinkOn rows ld ≡ out (Refused (AsymmetricalFaces ld rd)) rows)
 unlink-answers rows ld rd s hl nl b nr = rw (sym (on-unlink rows ld rd s b nr)) (go (stepOf true ld rd rows ld rd) refl (step-answers ld rd rows s ld rd nl))
   where
-    go : (o : Out) → o ≡ stepOf true ld rd rows ld rd → DoneOrUneven ld rd (stepOf true ld rd rows ld rd .answer) → Two ld rd rd rows (afterCore true rd rows ld rd o)
-    go o e (inr t) = inr (ap (λ (a : Answer). cond (isDone a) (afterLeg true rd rows ld rd (legOn true (o .rows) ld rd)) (out a rows)) (ap (λ (x : Out). x .answer) e ∙ t))
+    go : (o : Out) → o ≡ stepOf true ld rd rows ld rd → DoneOrUneven ld rd (stepOf true ld rd rows ld rd .answer) →
+        Two ld rd rd rows (afterCore true rd rows ld rd o)
+    go o e (inr t) = inr (ap (λ (a : Answer). cond (isDone a) (afterLeg true rd rows ld rd (legOn true (o .rows) ld rd)) (out a rows))
+        (ap (λ (x : Out). x .answer) e ∙ t))
     go o e (inl t) =
         let t′ : isDone (o .answer) ≡ true = ap (λ (x : Out). isDone (x .answer)) e ∙ t in
         let hr : rd < darts rows = rw b (s .below 3 ld) in
@@ -112,7 +115,8 @@ unlink-answers rows ld rd s hl nl b nr = rw (sym (on-unlink rows ld rd s b nr)) 
         let s₁ = changed-formed true rows ld rd (o .rows) s h hl hr nl in
         let w : LegOut = legOn true (o .rows) ld rd in
         let g : Walked true (o .rows) 1 0 (beta (o .rows) 1 ld) (beta (o .rows) 0 rd) 0 w =
-        walked true ld rd 1 0 ld (omega arith) (omega arith) (suc (length (o .rows))) (o .rows) (beta (o .rows) 1 ld) (beta (o .rows) 0 rd) 0 s₁ (s₁ .below 1 ld) (s₁ .below 0 rd) in
+        walked true ld rd 1 0 ld (omega arith) (omega arith) (suc (length (o .rows))) (o .rows) (beta (o .rows) 1 ld) (beta (o .rows) 0 rd) 0 s₁
+        (s₁ .below 1 ld) (s₁ .below 0 rd) in
         let s₂ = g .formed in
         rw t′
         (leg-two ld rd rd rows w

@@ -1,5 +1,5 @@
 -- The proved examples ("P") of document 01, as one table; `proofs/Agree.antt` has the one claim over it.
---   Line A           a row of the table: what the call leaves, an A, and what the document says; here A is `Out`, an answer and rows
+--   Line A           a row of the table: what the call leaves, an A, and what the document says; here A is `Outcome (List ℕ)`, an answer and rows
 --   one, loops, ..   maps: "Beta 1 chains; 'loop' means closed; all else null."
 --   lines            the table: the lines of links, then the smallest inputs that tell the readings of the walk apart
 --   calls, sayings   its two columns
@@ -8,7 +8,7 @@ use Prim.Native.Nat.{ℕ}
 use mathlib.Core.List.{List, [], _∷_, _++_}
 use Rattle.map_betas.specs.declared.error.Answer.the-variants.{Refused}
 use Rattle.map_betas.specs.declared.error.Refusal.the-variants.{NonFreeBase, NonFreeImage, AsymmetricalFaces}
-use Rattle.map_betas.specs.Answers.{Out, out, pass}
+use Rattle.map_betas.specs.Answers.{Outcome, outcome, pass}
 use Rattle.link_walk.specs.Calls.{threeLink, threeUnlink}
 
 -- a dart's images by beta 0, 1, 2 and 3
@@ -61,20 +61,20 @@ pub record Line (A : Type 0) : Type 0 where
 abbrev pub line : {A : Type 0} → A → A → Line A
 line c s = record { call = c; says = s }
 
-unfoldable pub lines : List (Line Out)
+unfoldable pub lines : List (Line (Outcome (List ℕ)))
 lines =
-    line (threeLink one 1 1) (out (Refused (NonFreeImage 3 1 1)) one)
-    ∷ line (threeLink loops 1 4) (out pass loops-linked)
-    ∷ line (threeUnlink loops-linked 4) (out (Refused (AsymmetricalFaces 4 1)) loops-linked)
-    ∷ line (threeLink loops 4 1) (out (Refused (NonFreeImage 3 7 1)) loops)
-    ∷ line (threeLink square 1 2) (out (Refused (NonFreeBase 3 2 1)) square)
-    ∷ line (threeLink opens 1 4) (out pass opens-linked)
-    ∷ line (threeLink opens 5 1) (out (Refused (AsymmetricalFaces 5 1)) opens)
+    line (threeLink one 1 1) (outcome (Refused (NonFreeImage 3 1 1)) one)
+    ∷ line (threeLink loops 1 4) (outcome pass loops-linked)
+    ∷ line (threeUnlink loops-linked 4) (outcome (Refused (AsymmetricalFaces 4 1)) loops-linked)
+    ∷ line (threeLink loops 4 1) (outcome (Refused (NonFreeImage 3 7 1)) loops)
+    ∷ line (threeLink square 1 2) (outcome (Refused (NonFreeBase 3 2 1)) square)
+    ∷ line (threeLink opens 1 4) (outcome pass opens-linked)
+    ∷ line (threeLink opens 5 1) (outcome (Refused (AsymmetricalFaces 5 1)) opens)
     -- walks read the rows as written so far
-    ∷ line (threeLink pair 1 2) (out (Refused (NonFreeBase 3 2 1)) pair)
-    ∷ line (threeUnlink pair-linked 1) (out (Refused (AsymmetricalFaces 1 2)) pair-linked)
+    ∷ line (threeLink pair 1 2) (outcome (Refused (NonFreeBase 3 2 1)) pair)
+    ∷ line (threeUnlink pair-linked 1) (outcome (Refused (AsymmetricalFaces 1 2)) pair-linked)
     -- only a closed chain is excused the step to ld
-    ∷ line (threeLink late 1 2) (out (Refused (AsymmetricalFaces 1 2)) late)
+    ∷ line (threeLink late 1 2) (outcome (Refused (AsymmetricalFaces 1 2)) late)
     ∷ []
 
 unfoldable pub calls : {A : Type 0} → List (Line A) → List A

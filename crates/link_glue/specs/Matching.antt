@@ -1,6 +1,6 @@
 -- What a 3-link asks and what it does, without a walk. `proofs/Demand.antt` has the theorems that join this page with the calls.
---   Chain rows ld d           d is a dart of the face chain of ld
---   Closed rows ld            that chain is closed
+--   Chain rows ld d           d is a dart of the face chain of ld: beta 1 and beta 0 lead from ld to d (map_betas/specs/Chains.antt)
+--   ClosedChain rows ld       that chain is closed
 --   Facing rows ld p          stepping forward on the chain is stepping back between partners, and ends meet ends
 --   Matching rows ld rd p     p gives each dart of the chain its partner, rd to ld: what a 3-link of ld and rd asks
 --   Linked rows ld p rows′    from rows to rows′ exactly these pairs have become 3-linked
@@ -11,21 +11,16 @@ use mathlib.Core.Path.{_≡_}
 use mathlib.Core.Logic.{_≢_}
 use mathlib.Core.List.{List}
 use Rattle.map_betas.specs.Betas.{beta, darts}
-
--- "Face chain of ld" is "all darts reached from ld by beta 1 and beta 0."
-pub data Chain (rows : List ℕ) (ld : ℕ) : ℕ → Type 0 where
-  first : Chain rows ld ld
-  on : {d : ℕ} → Chain rows ld d → beta rows 1 d ≢ 0 → Chain rows ld (beta rows 1 d)
-  back : {d : ℕ} → Chain rows ld d → beta rows 0 d ≢ 0 → Chain rows ld (beta rows 0 d)
+pub use Rattle.map_betas.specs.Chains.{Chain, first, on, back}
 
 -- "It is closed if it has no null beta 1; the step back to ld closes it."
-pub record Closed (rows : List ℕ) (ld : ℕ) : Type 0 where
+pub record ClosedChain (rows : List ℕ) (ld : ℕ) : Type 0 where
   pub never-null : (d : ℕ) → Chain rows ld d → beta rows 1 d ≢ 0
 
 -- p d is the partner of d. Only steps from darts of the chain count: what follows the partner of an open chain's first dart is not asked.
 pub record Facing (rows : List ℕ) (ld : ℕ) (p : ℕ → ℕ) : Type 0 where
   -- a step forward from d is a step back from its partner; but the step back to ld that closes a closed chain asks nothing
-  pub steps : (d : ℕ) → Chain rows ld d → beta rows 1 d ≢ 0 → (Closed rows ld → beta rows 1 d ≢ ld) → beta rows 0 (p d) ≡ p (beta rows 1 d)
+  pub steps : (d : ℕ) → Chain rows ld d → beta rows 1 d ≢ 0 → (ClosedChain rows ld → beta rows 1 d ≢ ld) → beta rows 0 (p d) ≡ p (beta rows 1 d)
   -- where nothing follows d, nothing stands before its partner: null for null
   pub ends : (d : ℕ) → Chain rows ld d → beta rows 1 d ≡ 0 → beta rows 0 (p d) ≡ 0
 

@@ -14,7 +14,7 @@ ghost use mathlib.Core.Bool.{cond};
 ghost use Prim.Native.Nat.{_<_};
 ghost use Rattle.map_betas.specs.Betas.{darts};
 ghost use Rattle.map_betas.specs.Maps.{WellFormed};
-ghost use Rattle.map_betas.specs.Answers.{out};
+ghost use Rattle.map_betas.specs.Answers.{out, outcome};
 ghost use Rattle.link_walk.specs.Walk.{stepOf};
 ghost use Rattle.link_walk.specs.Undo.{undone};
 ghost use Rattle.link_walk.specs.Three.{legBack, lastLeg, afterCore, threeLinkOn, threeUnlinkOn};
@@ -23,7 +23,8 @@ ghost use Rattle.link_walk.specs.Calls.{threeLink, threeUnlink};
 // The second leg, back from ld. After a refusal the pairs of both legs are set back, of the first as many as steps.
 fn back(rows: &mut [u32], un: bool, ld: u32, rd: u32, steps: usize) -> Answer
     requires { ⌜ WellFormed (now rows) × (ld < darts (now rows)) × (rd < darts (now rows)) ⌝ }
-    ensures { λ a. ⌜ out a (now (rows .exit)) ≡ lastLeg (cond un rd 0) (undone un steps (now (rows .entry)) 1 0 ld rd) (legBack un (now (rows .entry)) ld rd) ⌝ }
+    ensures { λ a. ⌜ out a (now (rows .exit)) ≡ lastLeg (cond un rd 0) (undone un steps (now (rows .entry)) 1 0 ld rd)
+        (legBack un (now (rows .entry)) ld rd) ⌝ }
 {
     let l = beta_at(rows, 0, ld);
     let r = beta_at(rows, 1, rd);
@@ -88,7 +89,7 @@ pub fn three_unlink_on(rows: &mut [u32], ld: u32) -> Answer
 
 // 3-links ld and rd, and the darts of their faces pair by pair. After a refusal the rows are as they were.
 pub fn three_link(rows: &mut [u32], ld: u32, rd: u32) -> Answer
-    ensures { λ a. ⌜ out a (now (rows .exit)) ≡ threeLink (now (rows .entry)) ld rd ⌝ }
+    ensures { λ a. ⌜ outcome a (now (rows .exit)) ≡ threeLink (now (rows .entry)) ld rd ⌝ }
 {
     let g = guard(rows, no_loans(), 1, ld, rd);
     if !is_done(g) {
@@ -99,7 +100,7 @@ pub fn three_link(rows: &mut [u32], ld: u32, rd: u32) -> Answer
 
 // 3-unlinks ld and its image, which is answered, and the darts of their faces pair by pair. After a refusal the rows are as they were.
 pub fn three_unlink(rows: &mut [u32], ld: u32) -> Answer
-    ensures { λ a. ⌜ out a (now (rows .exit)) ≡ threeUnlink (now (rows .entry)) ld ⌝ }
+    ensures { λ a. ⌜ outcome a (now (rows .exit)) ≡ threeUnlink (now (rows .entry)) ld ⌝ }
 {
     let g = guard(rows, no_loans(), 1, ld, ld);
     if !is_done(g) {

@@ -13,11 +13,11 @@ use mathlib.Core.Bool.{Bool, true, false, cond, true≢false}
 use Rattle.map_betas.specs.declared.error.Answer.{Answer}
 use Rattle.map_betas.specs.declared.loans.Loans.{Loans}
 use Rattle.map_betas.specs.Betas.{darts}
-use Rattle.map_betas.specs.Answers.{Out, out, pass, isDone, andThen, guarded}
+use Rattle.map_betas.specs.Answers.{Outcome, outcome, pass, isDone, andThen, behind}
 use Rattle.map_betas.specs.Maps.{sizeTest, mapTest}
 use Rattle.map_betas.specs.Guards.{noLoans, loanTest, dartTest, guardOf}
 use Rattle.link_walk.specs.Calls.{Real}
-use Rattle.map_betas.proofs.AnswerLaws.{first-done, then-done, goes-on, call-done}
+use Rattle.map_betas.proofs.AnswerLaws.{first-done, then-done, goes-on, behind-done}
 use Rattle.map_betas.proofs.Formed.{formed-iff}
 use Rattle.map_betas.proofs.GuardLaws.{ready, loan-none, dart-good, dart-both}
 
@@ -44,14 +44,14 @@ admits rows a b h =
     let d : pass ≡ dartTest n 1 a b = dart-both n 1 a b (dart-good n 1 a (h .1) (h .2)) (dart-good n 1 b (h .3) (h .4)) in
     d ∙ goes-on (mapTest rows) (mapTest rows) _ refl t ∙ goes-on pass (loanTest n noLoans) _ l refl ∙ goes-on (sizeTest rows) (sizeTest rows) _ refl s
 
-module _ (rows : List ℕ) (a b : ℕ) (o : Out) where
-  pub through : isDone (guarded rows (guardOf rows noLoans 1 a b) o .answer) ≡ true → Real rows a b × (guarded rows (guardOf rows noLoans 1 a b) o ≡ o)
+module _ (rows : List ℕ) (a b : ℕ) (o : Outcome (List ℕ)) where
+  pub through : isDone (behind (guardOf rows noLoans 1 a b) rows o .answer) ≡ true → Real rows a b × (behind (guardOf rows noLoans 1 a b) rows o ≡ o)
   through = go (guardOf rows noLoans 1 a b) refl (isDone (guardOf rows noLoans 1 a b)) refl
     where
-      go : (g : Answer) → g ≡ guardOf rows noLoans 1 a b → (c : Bool) → isDone g ≡ c → isDone (cond c o (out g rows) .answer) ≡ true →
-          Real rows a b × (cond c o (out g rows) ≡ o)
+      go : (g : Answer) → g ≡ guardOf rows noLoans 1 a b → (c : Bool) → isDone g ≡ c → isDone (cond c o (outcome g rows) .answer) ≡ true →
+          Real rows a b × (cond c o (outcome g rows) ≡ o)
       go g e true t d = (passed rows a b g e t, refl)
       go g e false t d = absurd (true≢false (sym d ∙ t))
 
-  pub inside : Real rows a b → guarded rows (guardOf rows noLoans 1 a b) o ≡ o
-  inside h = sym (call-done rows pass (guardOf rows noLoans 1 a b) (admits rows a b h) o refl)
+  pub inside : Real rows a b → behind (guardOf rows noLoans 1 a b) rows o ≡ o
+  inside h = sym (behind-done pass (guardOf rows noLoans 1 a b) (admits rows a b h) rows o refl)

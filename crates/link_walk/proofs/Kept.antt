@@ -18,7 +18,7 @@ use Rattle.map_betas.specs.declared.error.Answer.{Answer}
 use Rattle.map_betas.specs.declared.error.Answer.the-variants.{Done, Refused}
 use Rattle.map_betas.specs.declared.error.Refusal.the-variants.{AsymmetricalFaces, NonFreeBase, NonFreeImage, AlreadyFree}
 use Rattle.map_betas.specs.Betas.{beta, darts, opp, put, cut}
-use Rattle.map_betas.specs.Answers.{Out, out, isDone, guarded}
+use Rattle.map_betas.specs.Answers.{Out, out, isDone, Outcome, outcome, given, behind}
 use Rattle.map_betas.specs.Guards.{guardOf, noLoans, Dart}
 use Rattle.map_betas.specs.Cores.{linkCore, unlinkCore}
 use Rattle.map_betas.specs.Maps.{WellFormed}
@@ -47,11 +47,13 @@ module _ (un : Bool) (d : ℕ) (entry : List ℕ) (ld rd : ℕ) (s : WellFormed 
       let q₁ = changed-length un entry ld rd rows₁ s h hl hr nl in
       let w : LegOut = legOn un rows₁ ld rd in
       let g : Walked un rows₁ 1 0 (beta rows₁ 1 ld) (beta rows₁ 0 rd) 0 w =
-      walked un ld rd 1 0 ld (omega arith) (omega arith) (suc (length rows₁)) rows₁ (beta rows₁ 1 ld) (beta rows₁ 0 rd) 0 s₁ (s₁ .below 1 ld) (s₁ .below 0 rd) in
+      walked un ld rd 1 0 ld (omega arith) (omega arith) (suc (length rows₁)) rows₁ (beta rows₁ 1 ld) (beta rows₁ 0 rd) 0 s₁ (s₁ .below 1 ld)
+      (s₁ .below 0 rd) in
       let s₂ = g .formed in
       let v : LegOut = legBack un (w .rows) ld rd in
       let g₂ : Walked un (w .rows) 0 1 (beta (w .rows) 0 ld) (beta (w .rows) 1 rd) 0 v =
-      walked un ld rd 0 1 0 (omega arith) (omega arith) (suc (length (w .rows))) (w .rows) (beta (w .rows) 0 ld) (beta (w .rows) 1 rd) 0 s₂ (s₂ .below 0 ld) (s₂ .below 1 rd) in
+      walked un ld rd 0 1 0 (omega arith) (omega arith) (suc (length (w .rows))) (w .rows) (beta (w .rows) 0 ld) (beta (w .rows) 1 rd) 0 s₂
+      (s₂ .below 0 ld) (s₂ .below 1 rd) in
       let last : Out = lastLeg d entry v in
       let uneven : Out = out (Refused (AsymmetricalFaces ld rd)) entry in
       let long : length (w .rows) ≡ length entry = g .long ∙ q₁ in
@@ -85,14 +87,14 @@ unlink-kept rows ld s hl nl =
 -- the calls: what the tests refuse is as it was
 
 module _ (rows : List ℕ) (a b : ℕ) (s : WellFormed rows) (o : Out) (k : Real rows a b → Keeps rows (o .rows)) where
-  call-kept : Keeps rows (guarded rows (guardOf rows noLoans 1 a b) o .rows)
+  call-kept : Keeps rows (behind (guardOf rows noLoans 1 a b) rows (given o) .loans)
   call-kept = go (guardOf rows noLoans 1 a b) refl (isDone (guardOf rows noLoans 1 a b)) refl
     where
-      go : (g : Answer) → g ≡ guardOf rows noLoans 1 a b → (c : Bool) → isDone g ≡ c → Keeps rows (cond c o (out g rows) .rows)
+      go : (g : Answer) → g ≡ guardOf rows noLoans 1 a b → (c : Bool) → isDone g ≡ c → Keeps rows (cond c (given o) (outcome g rows) .loans)
       go g e true t = k (passed rows a b g e t)
       go g e false t = (s, refl)
 
-pub three-link-kept : (rows : List ℕ) (ld rd : ℕ) → WellFormed rows → Keeps rows (threeLink rows ld rd .rows)
+pub three-link-kept : (rows : List ℕ) (ld rd : ℕ) → WellFormed rows → Keeps rows (threeLink rows ld rd .loans)
 unfolding threeLink
 three-link-kept rows ld rd s =
     call-kept rows ld rd s (threeLinkOn rows ld rd)
@@ -101,7 +103,7 @@ three-link-kept rows ld rd s =
     let nr = h .3 in
     link-kept rows ld rd s (h .2) (omega arith) (h .4) (omega arith))
 
-pub three-unlink-kept : (rows : List ℕ) (ld : ℕ) → WellFormed rows → Keeps rows (threeUnlink rows ld .rows)
+pub three-unlink-kept : (rows : List ℕ) (ld : ℕ) → WellFormed rows → Keeps rows (threeUnlink rows ld .loans)
 unfolding threeUnlink
 three-unlink-kept rows ld s =
     call-kept rows ld ld s (threeUnlinkOn rows ld)
@@ -109,7 +111,7 @@ three-unlink-kept rows ld s =
     let nl = h .1 in
     unlink-kept rows ld s (h .2) (omega arith))
 
-pub bare-link-kept : (rows : List ℕ) (i ld rd : ℕ) → 1 ≤ i → i < 4 → WellFormed rows → Keeps rows (bareLink rows i ld rd .rows)
+pub bare-link-kept : (rows : List ℕ) (i ld rd : ℕ) → 1 ≤ i → i < 4 → WellFormed rows → Keeps rows (bareLink rows i ld rd .loans)
 unfolding bareLink
 bare-link-kept rows i ld rd h₁ h₄ s =
     call-kept rows ld rd s (linkCore rows i ld rd)
@@ -118,44 +120,48 @@ bare-link-kept rows i ld rd h₁ h₄ s =
     let dr : Dart (darts rows) 1 rd = record { allowed = h .3; below = h .4 } in
     (link-formed rows i ld rd s h₁ h₄ dl dr, link-length rows i ld rd s h₁ h₄ dl dr))
 
-pub bare-unlink-kept : (rows : List ℕ) (i ld : ℕ) → 1 ≤ i → i < 4 → WellFormed rows → Keeps rows (bareUnlink rows i ld .rows)
+pub bare-unlink-kept : (rows : List ℕ) (i ld : ℕ) → 1 ≤ i → i < 4 → WellFormed rows → Keeps rows (bareUnlink rows i ld .loans)
 unfolding bareUnlink
 bare-unlink-kept rows i ld h₁ h₄ s =
     call-kept rows ld ld s (unlinkCore rows i ld) (λ h. (unlink-formed rows i ld s h₁ h₄, unlink-length rows i ld s h₁ h₄))
 
 -- a refusal leaves the rows as they were
 
-abbrev pub Unmoved : List ℕ → Out → Type 0
-Unmoved rows o = isDone (o .answer) ≡ false → o .rows ≡ rows
+abbrev pub Unmoved : List ℕ → Outcome (List ℕ) → Type 0
+Unmoved rows o = isDone (o .answer) ≡ false → o .loans ≡ rows
 
 module _ (rows : List ℕ) where
-  or-else : (b : Bool) (x y : Out) → Unmoved rows x → Unmoved rows y → Unmoved rows (cond b x y)
+  or-else : (b : Bool) (x y : Out) → Unmoved rows (given x) → Unmoved rows (given y) → Unmoved rows (given (cond b x y))
   or-else true x y kx ky = kx
   or-else false x y kx ky = ky
 
-  done : (d : ℕ) (xs : List ℕ) → Unmoved rows (out (Done d 0) xs)
+  done : (d : ℕ) (xs : List ℕ) → Unmoved rows (given (out (Done d 0) xs))
   done d xs t = absurd (true≢false t)
 
-  here : (a : Answer) → Unmoved rows (out a rows)
+  here : (a : Answer) → Unmoved rows (given (out a rows))
   here a t = refl
 
-  behind : (g : Answer) (o : Out) → Unmoved rows o → Unmoved rows (guarded rows g o)
-  behind g o k = or-else (isDone g) o (out g rows) k (here g)
+  tested : (g : Answer) (o : Out) → Unmoved rows (given o) → Unmoved rows (behind g rows (given o))
+  tested g o k = go (isDone g)
+    where
+      go : (b : Bool) → Unmoved rows (cond b (given o) (outcome g rows))
+      go true = k
+      go false = λ t. refl
 
   pub bare-link-unmoved : (i ld rd : ℕ) → Unmoved rows (bareLink rows i ld rd)
   unfolding bareLink linkCore
   bare-link-unmoved i ld rd =
-      behind (guardOf rows noLoans 1 ld rd) _
+      tested (guardOf rows noLoans 1 ld rd) _
       (or-else (not (eqb (beta rows i ld) 0)) _ _ (here (Refused (NonFreeBase i ld rd)))
       (or-else (not (eqb (beta rows (opp i) rd) 0) || leb 2 i && eqb ld rd) _ _ (here (Refused (NonFreeImage (opp i) ld rd))) (done 0 (put rows i ld rd))))
 
   pub bare-unlink-unmoved : (i ld : ℕ) → Unmoved rows (bareUnlink rows i ld)
   unfolding bareUnlink unlinkCore
   bare-unlink-unmoved i ld =
-      behind (guardOf rows noLoans 1 ld ld) _
+      tested (guardOf rows noLoans 1 ld ld) _
       (or-else (eqb (beta rows i ld) 0) _ _ (here (Refused (AlreadyFree i ld))) (done (beta rows i ld) (cut rows i ld (beta rows i ld))))
 
-  three-unmoved : (un : Bool) (d ld rd : ℕ) (o : Out) → Unmoved rows (afterCore un d rows ld rd o)
+  three-unmoved : (un : Bool) (d ld rd : ℕ) (o : Out) → Unmoved rows (given (afterCore un d rows ld rd o))
   three-unmoved un d ld rd o =
       let w : LegOut = legOn un (o .rows) ld rd in
       let v : LegOut = legBack un (w .rows) ld rd in
@@ -171,8 +177,8 @@ module _ (rows : List ℕ) where
 
   pub three-link-unmoved : (ld rd : ℕ) → Unmoved rows (threeLink rows ld rd)
   unfolding threeLink threeLinkOn
-  three-link-unmoved ld rd = behind (guardOf rows noLoans 1 ld rd) _ (three-unmoved false 0 ld rd (linkCore rows 3 ld rd))
+  three-link-unmoved ld rd = tested (guardOf rows noLoans 1 ld rd) _ (three-unmoved false 0 ld rd (linkCore rows 3 ld rd))
 
   pub three-unlink-unmoved : (ld : ℕ) → Unmoved rows (threeUnlink rows ld)
   unfolding threeUnlink threeUnlinkOn
-  three-unlink-unmoved ld = behind (guardOf rows noLoans 1 ld ld) _ (three-unmoved true (beta rows 3 ld) ld (beta rows 3 ld) (unlinkCore rows 3 ld))
+  three-unlink-unmoved ld = tested (guardOf rows noLoans 1 ld ld) _ (three-unmoved true (beta rows 3 ld) ld (beta rows 3 ld) (unlinkCore rows 3 ld))

@@ -2,18 +2,18 @@
 --   inside-set        a store of a dart keeps rows inside
 --   beta-set          a store of a beta 3 image leaves the images by beta 0, 1 and 2
 --   zeros, zeros-..   how many places are null, and how a store changes that: why a walk ends
---   clear-comm, set-back-two   stores of 0, and of what stood there before
+--   clear-comm        stores of 0 commute
 -- Assumes nothing.
 use Prim.Native.Nat.{ℕ, zero, suc, _<_, _≤_}
 use native.Mathlib.Omega.{arith}
 use native.Mathlib.Decide.{ℕ-discrete}
-use mathlib.Core.Path.{_≡_, refl, sym, ap, _∙_}
+use mathlib.Core.Path.{_≡_, refl, _∙_}
 use mathlib.Core.Logic.{_≢_, by-cases}
 use mathlib.Core.List.{List, [], _∷_}
 use lib.ListN.{length, getD, set, length-set}
 use lib.Seq.{getD-set-other, set-comm}
-use Rattle.map_betas.specs.Betas.{cell, beta}
-use Rattle.map_betas.proofs.Stores.{below-set, set-back}
+use Rattle.map_betas.specs.Betas.{place, beta}
+use Rattle.map_betas.proofs.Stores.{below-set}
 use Rattle.link_walk.specs.Undo.{Inside}
 
 pub inside-set : (n : ℕ) (rows : List ℕ) (a v : ℕ) → Inside n rows → v < n → Inside n (set rows a v)
@@ -24,8 +24,8 @@ inside-set n rows a v s h =
     }
 
 -- an image by beta 0, 1 or 2 is no image by beta 3
-pub beta-set : (rows : List ℕ) (i d a v : ℕ) → i < 3 → beta (set rows (cell 3 a) v) i d ≡ beta rows i d
-beta-set rows i d a v h = getD-set-other rows (cell 3 a) (cell i d) v 0 (omega arith)
+pub beta-set : (rows : List ℕ) (i d a v : ℕ) → i < 3 → beta (set rows (place 3 a) v) i d ≡ beta rows i d
+beta-set rows i d a v h = getD-set-other rows (place 3 a) (place i d) v 0 (omega arith)
 
 -- how many places are null
 unfoldable pub zeros : List ℕ → ℕ
@@ -82,10 +82,3 @@ zeros-clear (zero ∷ xs) zero n = absurd (n refl)
 zeros-clear (zero ∷ xs) (suc k) n = let h = zeros-clear xs k n in omega arith
 zeros-clear (suc x ∷ xs) zero n = omega arith
 zeros-clear (suc x ∷ xs) (suc k) n = zeros-clear xs k n
-
--- two stores and what stood there before
-pub set-back-two : (xs : List ℕ) (a b x y v z : ℕ) → a ≢ b → getD xs a 0 ≡ v → getD xs b 0 ≡ z → set (set (set (set xs a x) b y) a v) b z ≡ xs
-set-back-two xs a b x y v z n ea eb =
-    set-comm (set (set xs a x) b y) a b v z n
-    ∙ ap (λ (s : List ℕ). set s a v) (set-back (set xs a x) b y z (getD-set-other xs a b x 0 (λ e. n (sym e)) ∙ eb))
-    ∙ set-back xs a x v ea

@@ -41,7 +41,8 @@ leg-start un ld rd i j stop f rows l r w rows′ el er e = e ∙ rw (el, er)
 
 -- what a leg that was walked leaves
 module _ (un : Bool) (ld rd i j stop f : ℕ) (rows : List ℕ) (l r : ℕ) (w : Leg) (rows′ : List ℕ)
-    (e : legOut w rows′ ≡ walk (stepOf un ld rd) f rows i j stop l r 0) (hi : i < 3) (hj : j < 3) (s : WellFormed rows) (hl : l < darts rows) (hr : r < darts rows) where
+    (e : legOut w rows′ ≡ walk (stepOf un ld rd) f rows i j stop l r 0) (hi : i < 3) (hj : j < 3) (s : WellFormed rows) (hl : l < darts rows)
+    (hr : r < darts rows) where
   pub leg-walked : Walked un rows i j l r 0 (legOut w rows′)
   leg-walked = rw e (walked un ld rd i j stop hi hj f rows l r 0 s hl hr)
 
@@ -79,11 +80,13 @@ module _ (un : Bool) (d : ℕ) (entry : List ℕ) (ld rd : ℕ) (a : Answer) (ro
     on-back b z n = rw (← e) (simp (t, ← p, b, eq-eqb (w .l) 0 z, eq-eqb (w .r) 0 n))
 
 -- all pairs of the first leg set back, ld and rd among them
-pub on-undone : (un : Bool) (entry : List ℕ) (ld rd : ℕ) (rows₁ : List ℕ) (w : Leg) (rows₂ : List ℕ) → WellFormed entry → ld < darts entry → rd < darts entry → ld ≢ 0 →
+pub on-undone : (un : Bool) (entry : List ℕ) (ld rd : ℕ) (rows₁ : List ℕ) (w : Leg) (rows₂ : List ℕ) → WellFormed entry → ld < darts entry →
+    rd < darts entry → ld ≢ 0 →
     Changed un entry ld rd rows₁ → legOut w rows₂ ≡ legOn un rows₁ ld rd → undone un (w .steps + 1) rows₂ 1 0 ld rd ≡ entry
 on-undone un entry ld rd rows₁ w rows₂ s hl hr nl h p =
     let s₁ = changed-formed un entry ld rd rows₁ s h hl hr nl in
-    let v = leg-walked un ld rd 1 0 ld (suc (length rows₁)) rows₁ (beta rows₁ 1 ld) (beta rows₁ 0 rd) w rows₂ p (omega arith) (omega arith) s₁ (s₁ .below 1 ld) (s₁ .below 0 rd) in
+    let v = leg-walked un ld rd 1 0 ld (suc (length rows₁)) rows₁ (beta rows₁ 1 ld) (beta rows₁ 0 rd) w rows₂ p (omega arith) (omega arith) s₁
+    (s₁ .below 1 ld) (s₁ .below 0 rd) in
     let q : suc (v .more) ≡ w .steps + 1 = let e = v .steps in omega arith in
     rw q at (again-on un entry ld rd rows₁ s h hl hr nl 1 0 0 (omega arith) (omega arith) (legOut w rows₂) v)
 

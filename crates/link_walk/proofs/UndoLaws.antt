@@ -15,14 +15,15 @@ use mathlib.Core.Bool.{Bool, true, false, cond, or-true}
 use lib.ListN.{length, set}
 use lib.Seq.{set-comm}
 use borrow.Author.Tests.{eq-eqb, ne-eqb}
-use Rattle.map_betas.specs.Betas.{cell, beta, darts}
+use Rattle.map_betas.specs.Betas.{place, beta, darts}
 use Rattle.map_betas.specs.Maps.{WellFormed}
 use Rattle.map_betas.specs.declared.error.Answer.{Answer}
 use Rattle.map_betas.specs.Answers.{Out, out, isDone, pass}
 use Rattle.link_walk.specs.Walk.{LegOut, legOut, legAt, walk, stepOf}
 use Rattle.link_walk.specs.Undo.{undone, Inside}
 use Rattle.link_walk.proofs.Stores.{inside-set, beta-set, clear-comm}
-use Rattle.link_walk.proofs.StepLaws.{Changed, step-done, step-kept, left, changed-length, changed-low, changed-l, changed-r, changed-far, changed-back, changed-formed, changed-left}
+use Rattle.link_walk.proofs.StepLaws.{Changed, step-done, step-kept, left}
+use Rattle.link_walk.proofs.StepLaws.{changed-length, changed-low, changed-l, changed-r, changed-far, changed-back, changed-formed, changed-left}
 
 -- the same images by beta 0, 1 and 2
 abbrev pub Alike : List ℕ → List ℕ → Type 0
@@ -43,7 +44,8 @@ pub record Walked (un : Bool) (rows : List ℕ) (i j l r k : ℕ) (w : LegOut) :
   pub more : ℕ
   pub steps : w .leg .steps ≡ k + more
   pub fell : more + left un (w .rows) ≤ left un rows
-  pub moves : (xs : List ℕ) (d v : ℕ) → Alike xs rows → Safe un rows d v → undone un more (set xs (cell 3 d) v) i j l r ≡ set (undone un more xs i j l r) (cell 3 d) v
+  pub moves : (xs : List ℕ) (d v : ℕ) → Alike xs rows → Safe un rows d v →
+      undone un more (set xs (place 3 d) v) i j l r ≡ set (undone un more xs i j l r) (place 3 d) v
   pub again : undone un more (w .rows) i j l r ≡ rows
 
 -- where it ends at once
@@ -65,7 +67,8 @@ module _ (un : Bool) (rows : List ℕ) (i j l r k : ℕ) where
       }
 
 -- a pair is changed
-module _ (un : Bool) (rows : List ℕ) (l r : ℕ) (rows′ : List ℕ) (s : WellFormed rows) (h : Changed un rows l r rows′) (hl : l < darts rows) (hr : r < darts rows) (nl : l ≢ 0) where
+module _ (un : Bool) (rows : List ℕ) (l r : ℕ) (rows′ : List ℕ) (s : WellFormed rows) (h : Changed un rows l r rows′) (hl : l < darts rows)
+    (hr : r < darts rows) (nl : l ≢ 0) where
   safe-l : Safe un rows′ l (cond un r 0)
   safe-l = go un (changed-l un rows l r rows′ s h hl hr nl)
     where
@@ -95,47 +98,49 @@ module _ (un : Bool) (rows : List ℕ) (l r : ℕ) (rows′ : List ℕ) (s : Wel
       go false e z = z
 
   safe-comm : (xs : List ℕ) (d v : ℕ) → Safe un rows d v →
-      set (set (set xs (cell 3 d) v) (cell 3 l) (cond un r 0)) (cell 3 r) (cond un l 0) ≡ set (set (set xs (cell 3 l) (cond un r 0)) (cell 3 r) (cond un l 0)) (cell 3 d) v
+      set (set (set xs (place 3 d) v) (place 3 l) (cond un r 0)) (place 3 r) (cond un l 0)
+      ≡ set (set (set xs (place 3 l) (cond un r 0)) (place 3 r) (cond un l 0)) (place 3 d) v
   safe-comm xs d v = go un refl
     where
       go : (u : Bool) → un ≡ u → Safe u rows d v →
-          set (set (set xs (cell 3 d) v) (cell 3 l) (cond u r 0)) (cell 3 r) (cond u l 0) ≡ set (set (set xs (cell 3 l) (cond u r 0)) (cell 3 r) (cond u l 0)) (cell 3 d) v
+          set (set (set xs (place 3 d) v) (place 3 l) (cond u r 0)) (place 3 r) (cond u l 0)
+          ≡ set (set (set xs (place 3 l) (cond u r 0)) (place 3 r) (cond u l 0)) (place 3 d) v
       go true e z =
           let a = away d e z in
           let al = a .0 in
           let ar = a .1 in
-          ap (λ (x : List ℕ). set x (cell 3 r) l) (set-comm xs (cell 3 d) (cell 3 l) v r (omega arith))
-          ∙ set-comm (set xs (cell 3 l) r) (cell 3 d) (cell 3 r) v l (omega arith)
+          ap (λ (x : List ℕ). set x (place 3 r) l) (set-comm xs (place 3 d) (place 3 l) v r (omega arith))
+          ∙ set-comm (set xs (place 3 l) r) (place 3 d) (place 3 r) v l (omega arith)
       go false e z =
           rw z
-          (ap (λ (x : List ℕ). set x (cell 3 r) 0) (clear-comm xs (cell 3 d) (cell 3 l))
-          ∙ clear-comm (set xs (cell 3 l) 0) (cell 3 d) (cell 3 r))
+          (ap (λ (x : List ℕ). set x (place 3 r) 0) (clear-comm xs (place 3 d) (place 3 l))
+          ∙ clear-comm (set xs (place 3 l) 0) (place 3 d) (place 3 r))
 
   module _ (i j k : ℕ) (hi : i < 3) (hj : j < 3) (w : LegOut) (v : Walked un rows′ i j (beta rows′ i l) (beta rows′ j r) k w) where
     low : Alike rows′ rows
     low = changed-low un rows l r rows′ s h hl hr nl
 
     moves-on : (xs : List ℕ) (d x : ℕ) → Alike xs rows → Safe un rows d x →
-        undone un (suc (v .more)) (set xs (cell 3 d) x) i j l r ≡ set (undone un (suc (v .more)) xs i j l r) (cell 3 d) x
+        undone un (suc (v .more)) (set xs (place 3 d) x) i j l r ≡ set (undone un (suc (v .more)) xs i j l r) (place 3 d) x
     unfolding undone
     moves-on xs d x e f =
-        let at-l : beta (set xs (cell 3 d) x) i l ≡ beta rows′ i l = beta-set xs i l d x hi ∙ e i l hi ∙ sym (low i l hi) in
-        let at-r : beta (set xs (cell 3 d) x) j r ≡ beta rows′ j r = beta-set xs j r d x hj ∙ e j r hj ∙ sym (low j r hj) in
+        let at-l : beta (set xs (place 3 d) x) i l ≡ beta rows′ i l = beta-set xs i l d x hi ∙ e i l hi ∙ sym (low i l hi) in
+        let at-r : beta (set xs (place 3 d) x) j r ≡ beta rows′ j r = beta-set xs j r d x hj ∙ e j r hj ∙ sym (low j r hj) in
         let to-l : beta xs i l ≡ beta rows′ i l = e i l hi ∙ sym (low i l hi) in
         let to-r : beta xs j r ≡ beta rows′ j r = e j r hj ∙ sym (low j r hj) in
-        let ys : List ℕ = set (set xs (cell 3 l) (cond un r 0)) (cell 3 r) (cond un l 0) in
+        let ys : List ℕ = set (set xs (place 3 l) (cond un r 0)) (place 3 r) (cond un l 0) in
         rw (at-l, at-r, to-l, to-r, safe-comm xs d x f)
         (v .moves ys d x
-        (λ b c hb. beta-set (set xs (cell 3 l) (cond un r 0)) b c r (cond un l 0) hb ∙ beta-set xs b c l (cond un r 0) hb ∙ e b c hb ∙ sym (low b c hb))
+        (λ b c hb. beta-set (set xs (place 3 l) (cond un r 0)) b c r (cond un l 0) hb ∙ beta-set xs b c l (cond un r 0) hb ∙ e b c hb ∙ sym (low b c hb))
         (safe-on d x f))
 
     pub again-on : undone un (suc (v .more)) (w .rows) i j l r ≡ rows
     unfolding undone
     again-on =
         rw (v .alike i l hi, v .alike j r hj)
-        (v .moves (set (w .rows) (cell 3 l) (cond un r 0)) r (cond un l 0) (λ b c hb. beta-set (w .rows) b c l (cond un r 0) hb ∙ v .alike b c hb) safe-r
-        ∙ ap (λ (x : List ℕ). set x (cell 3 r) (cond un l 0)) (v .moves (w .rows) l (cond un r 0) (v .alike) safe-l)
-        ∙ ap (λ (x : List ℕ). set (set x (cell 3 l) (cond un r 0)) (cell 3 r) (cond un l 0)) (v .again)
+        (v .moves (set (w .rows) (place 3 l) (cond un r 0)) r (cond un l 0) (λ b c hb. beta-set (w .rows) b c l (cond un r 0) hb ∙ v .alike b c hb) safe-r
+        ∙ ap (λ (x : List ℕ). set x (place 3 r) (cond un l 0)) (v .moves (w .rows) l (cond un r 0) (v .alike) safe-l)
+        ∙ ap (λ (x : List ℕ). set (set x (place 3 l) (cond un r 0)) (place 3 r) (cond un l 0)) (v .again)
         ∙ changed-back un rows l r rows′ s h hl hr nl)
 
   pub onward : (i j k : ℕ) → i < 3 → j < 3 → (w : LegOut) → Walked un rows′ i j (beta rows′ i l) (beta rows′ j r) (suc k) w → Walked un rows i j l r k w
@@ -168,7 +173,8 @@ module _ (un : Bool) (ld rd i j stop : ℕ) (hi : i < 3) (hj : j < 3) where
   after f next rows l r k s hl hr nl o e true t =
       let h = step-done rows (o .answer) (o .rows) ld rd l r un s nl e t in
       let s′ = changed-formed un rows l r (o .rows) s h hl hr nl in
-      onward un rows l r (o .rows) s h hl hr nl i j k hi hj _ (next (o .rows) (beta (o .rows) i l) (beta (o .rows) j r) (suc k) s′ (s′ .below i l) (s′ .below j r))
+      onward un rows l r (o .rows) s h hl hr nl i j k hi hj _
+      (next (o .rows) (beta (o .rows) i l) (beta (o .rows) j r) (suc k) s′ (s′ .below i l) (s′ .below j r))
   after f next rows l r k s hl hr nl o e false t = rw (step-kept rows (o .answer) (o .rows) ld rd l r un e t) (here un rows i j l r k (o .answer) s hl hr)
 
   walks-on : (f : ℕ) → Walks f → Walks (suc f)
@@ -198,10 +204,11 @@ turn un ld rd rows l r a rows′ s hl hr nl e t =
 
 -- a turn of the loop that sets back
 module _ (un : Bool) (rows : List ℕ) (l r v z : ℕ) (rows₁ rows₂ : List ℕ) (ev : v ≡ cond un r 0) (ez : z ≡ cond un l 0)
-    (e₁ : rows₁ ≡ set rows (cell 3 l) v) (e₂ : rows₂ ≡ set rows₁ (cell 3 r) z) where
+    (e₁ : rows₁ ≡ set rows (place 3 l) v) (e₂ : rows₂ ≡ set rows₁ (place 3 r) z) where
   pub back-inside : (n : ℕ) → Inside n rows → l < n → r < n → Inside n rows₂
   back-inside n s hl hr =
-      rw (e₂, e₁, ev, ez) (inside-set n (set rows (cell 3 l) (cond un r 0)) (cell 3 r) (cond un l 0) (inside-set n rows (cell 3 l) (cond un r 0) s (small un r hr)) (small un l hl))
+      rw (e₂, e₁, ev, ez) (inside-set n (set rows (place 3 l) (cond un r 0)) (place 3 r) (cond un l 0)
+      (inside-set n rows (place 3 l) (cond un r 0) s (small un r hr)) (small un l hl))
     where
       small : (b : Bool) (d : ℕ) → d < n → cond b d 0 < n
       small true d hd = hd

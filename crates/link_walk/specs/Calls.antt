@@ -6,35 +6,35 @@
 use Prim.Native.Nat.{ℕ, _<_}
 use mathlib.Core.List.{List}
 use Rattle.map_betas.specs.Betas.{darts}
-use Rattle.map_betas.specs.Answers.{Out, guarded}
+use Rattle.map_betas.specs.Answers.{Outcome, given, behind}
 use Rattle.map_betas.specs.Maps.{WellFormed}
 use Rattle.map_betas.specs.Guards.{guardOf, noLoans}
 use Rattle.map_betas.specs.Cores.{linkCore, unlinkCore}
 use Rattle.link_walk.specs.Three.{threeLinkOn, threeUnlinkOn}
 
-unfoldable pub bareLink : List ℕ → ℕ → ℕ → ℕ → Out
-bareLink rows i ld rd = guarded rows (guardOf rows noLoans 1 ld rd) (linkCore rows i ld rd)
+unfoldable pub bareLink : List ℕ → ℕ → ℕ → ℕ → Outcome (List ℕ)
+bareLink rows i ld rd = behind (guardOf rows noLoans 1 ld rd) rows (given (linkCore rows i ld rd))
 
-unfoldable pub bareUnlink : List ℕ → ℕ → ℕ → Out
-bareUnlink rows i ld = guarded rows (guardOf rows noLoans 1 ld ld) (unlinkCore rows i ld)
+unfoldable pub bareUnlink : List ℕ → ℕ → ℕ → Outcome (List ℕ)
+bareUnlink rows i ld = behind (guardOf rows noLoans 1 ld ld) rows (given (unlinkCore rows i ld))
 
-abbrev pub oneLink : List ℕ → ℕ → ℕ → Out
+abbrev pub oneLink : List ℕ → ℕ → ℕ → Outcome (List ℕ)
 oneLink rows ld rd = bareLink rows 1 ld rd
 
-abbrev pub oneUnlink : List ℕ → ℕ → Out
+abbrev pub oneUnlink : List ℕ → ℕ → Outcome (List ℕ)
 oneUnlink rows ld = bareUnlink rows 1 ld
 
-abbrev pub twoLink : List ℕ → ℕ → ℕ → Out
+abbrev pub twoLink : List ℕ → ℕ → ℕ → Outcome (List ℕ)
 twoLink rows ld rd = bareLink rows 2 ld rd
 
-abbrev pub twoUnlink : List ℕ → ℕ → Out
+abbrev pub twoUnlink : List ℕ → ℕ → Outcome (List ℕ)
 twoUnlink rows ld = bareUnlink rows 2 ld
 
-unfoldable pub threeLink : List ℕ → ℕ → ℕ → Out
-threeLink rows ld rd = guarded rows (guardOf rows noLoans 1 ld rd) (threeLinkOn rows ld rd)
+unfoldable pub threeLink : List ℕ → ℕ → ℕ → Outcome (List ℕ)
+threeLink rows ld rd = behind (guardOf rows noLoans 1 ld rd) rows (given (threeLinkOn rows ld rd))
 
-unfoldable pub threeUnlink : List ℕ → ℕ → Out
-threeUnlink rows ld = guarded rows (guardOf rows noLoans 1 ld ld) (threeUnlinkOn rows ld)
+unfoldable pub threeUnlink : List ℕ → ℕ → Outcome (List ℕ)
+threeUnlink rows ld = behind (guardOf rows noLoans 1 ld ld) rows (given (threeUnlinkOn rows ld))
 
 -- BadDart: "dart >= n; also 0 for links, unlinks, sews, unsews"
 abbrev pub Real : List ℕ → ℕ → ℕ → Type 0

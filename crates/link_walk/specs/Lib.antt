@@ -3,7 +3,7 @@
 --   Undo      what sets a walk back after a refusal
 --   Three     the 3-link and the 3-unlink of real darts of a map
 --   Calls     the six calls, for any rows and any darts
--- What a 3-link asks and what it does without a walk is in the crate `glue`, `specs/Matching.antt`.
+-- What a 3-link asks and what it does without a walk is in the crate `link_glue`, `specs/Matching.antt`.
 pub mod Walk
 pub mod Undo
 pub mod Three

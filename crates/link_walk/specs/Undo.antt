@@ -6,13 +6,13 @@ use mathlib.Core.Path.{_≡_}
 use mathlib.Core.List.{List}
 use mathlib.Core.Bool.{Bool, cond}
 use lib.ListN.{length, getD, set}
-use Rattle.map_betas.specs.Betas.{beta, cell}
+use Rattle.map_betas.specs.Betas.{beta, place}
 
 -- Before a step of a link its pair was free; before a step of an unlink it was linked.
 unfoldable pub undone : Bool → ℕ → List ℕ → ℕ → ℕ → ℕ → ℕ → List ℕ
 undone un zero rows i j l r = rows
 undone un (suc k) rows i j l r =
-    undone un k (set (set rows (cell 3 l) (cond un r 0)) (cell 3 r) (cond un l 0)) i j (beta rows i l) (beta rows j r)
+    undone un k (set (set rows (place 3 l) (cond un r 0)) (place 3 r) (cond un l 0)) i j (beta rows i l) (beta rows j r)
 
 pub record Inside (n : ℕ) (rows : List ℕ) : Type 0 where
   pub whole : length rows ≡ 4 * n

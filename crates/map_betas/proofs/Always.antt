@@ -5,19 +5,19 @@
 -- Assumes nothing.
 use Prim.Native.Nat.{ℕ, _<_, _≤_}
 use native.Mathlib.Omega.{arith}
-use mathlib.Core.Path.{_≡_, refl, ap, _∙_}
+use mathlib.Core.Path.{_≡_, refl, ap}
 use mathlib.Core.Logic.{_≢_}
 use mathlib.Core.List.{List}
 use mathlib.Core.Bool.{Bool, true, false}
 use lib.ListN.{length}
 use Rattle.map_betas.specs.Betas.{beta, darts, opp}
-use Rattle.map_betas.specs.Answers.{Out, isDone}
+use Rattle.map_betas.specs.Answers.{isDone}
 use Rattle.map_betas.specs.Maps.{WellFormed}
 use Rattle.map_betas.specs.Guards.{Dart}
 use Rattle.map_betas.specs.Cores.{linkCore, unlinkCore}
 use Rattle.map_betas.proofs.BetaLaws.{opp-lt}
 use Rattle.map_betas.proofs.Stores.{pair-length}
-use Rattle.map_betas.proofs.Kept.{link-pair, link-keeps, link-changes, link-refused, unlink-pair, unlink-keeps, unlink-changes, unlink-refused}
+use Rattle.map_betas.proofs.Kept.{link-pair, link-keeps, link-changes, link-refused, unlink-changed, unlink-keeps, unlink-changes, unlink-refused}
 
 module _ (rows : List ℕ) (i l r : ℕ) (w : WellFormed rows) (h₁ : 1 ≤ i) (h₄ : i < 4) (dl : Dart (darts rows) 1 l) (dr : Dart (darts rows) 1 r) where
   pub link-formed : WellFormed (linkCore rows i l r .rows)
@@ -31,9 +31,7 @@ module _ (rows : List ℕ) (i l r : ℕ) (w : WellFormed rows) (h₁ : 1 ≤ i) 
   link-length = go (isDone (linkCore rows i l r .answer)) refl
     where
       go : (b : Bool) → isDone (linkCore rows i l r .answer) ≡ b → length (linkCore rows i l r .rows) ≡ length rows
-      go true t =
-          let p = link-pair rows i l r w h₁ h₄ dl dr t in
-          ap (λ (o : Out). length (o .rows)) (p .1) ∙ pair-length false rows i l r (w .sized) (p .0)
+      go true t = pair-length false rows i l r _ (link-pair rows i l r w h₁ h₄ dl dr t .0)
       go false t = ap length (link-refused rows i l r t)
 
   pub link-other : (k d : ℕ) → k < 4 → k ≢ i → k ≢ opp i → beta (linkCore rows i l r .rows) k d ≡ beta rows k d
@@ -56,9 +54,7 @@ module _ (rows : List ℕ) (i l : ℕ) (w : WellFormed rows) (h₁ : 1 ≤ i) (h
   unlink-length = go (isDone (unlinkCore rows i l .answer)) refl
     where
       go : (b : Bool) → isDone (unlinkCore rows i l .answer) ≡ b → length (unlinkCore rows i l .rows) ≡ length rows
-      go true t =
-          let p = unlink-pair rows i l w h₁ h₄ t in
-          ap (λ (o : Out). length (o .rows)) (p .1) ∙ pair-length true rows i l (beta rows i l) (w .sized) (p .0)
+      go true t = pair-length true rows i l (beta rows i l) _ (unlink-changed rows i l w h₁ h₄ t)
       go false t = ap length (unlink-refused rows i l t)
 
   pub unlink-other : (k d : ℕ) → k < 4 → k ≢ i → k ≢ opp i → beta (unlinkCore rows i l .rows) k d ≡ beta rows k d

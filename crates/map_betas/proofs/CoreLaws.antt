@@ -7,7 +7,7 @@ use lib.ListN.{set}
 use borrow.Author.Tests.{eq-eqb, ne-eqb, le-leb}
 use Rattle.map_betas.specs.declared.error.Answer.the-variants.{Done, Refused}
 use Rattle.map_betas.specs.declared.error.Refusal.the-variants.{NonFreeBase, NonFreeImage, AlreadyFree}
-use Rattle.map_betas.specs.Betas.{cell, beta, opp}
+use Rattle.map_betas.specs.Betas.{place, beta, opp}
 use Rattle.map_betas.specs.Answers.{out, pass}
 use Rattle.map_betas.specs.Cores.{linkCore, unlinkCore}
 use Rattle.map_betas.proofs.BetaLaws.{no-self, opp-high}
@@ -29,7 +29,7 @@ module _ (rows : List ℕ) (i l r : ℕ) where
       ∙ simp (← e, eq-eqb _ _ z, eq-eqb _ _ n, le-leb _ _ h, eq-eqb l r s)
 
   pub link-done : (j : ℕ) (a b : List ℕ) → j ≡ opp i → beta rows i l ≡ 0 → beta rows j r ≡ 0 → (2 ≤ i → l ≢ r) →
-      a ≡ set rows (cell i l) r → b ≡ set a (cell j r) l → out pass b ≡ linkCore rows i l r
+      a ≡ set rows (place i l) r → b ≡ set a (place j r) l → out pass b ≡ linkCore rows i l r
   unfolding linkCore
   link-done j a b e z n h ea eb = simp (eb, ea, ← e, eq-eqb _ _ z, eq-eqb _ _ n, no-self i l r h)
 
@@ -39,6 +39,6 @@ module _ (rows : List ℕ) (i l : ℕ) where
   unlink-free z = simp (eq-eqb _ _ z)
 
   pub unlink-done : (j x : ℕ) (a b : List ℕ) → j ≡ opp i → x ≡ beta rows i l → x ≢ 0 →
-      a ≡ set rows (cell i l) 0 → b ≡ set a (cell j x) 0 → out (Done x 0) b ≡ unlinkCore rows i l
+      a ≡ set rows (place i l) 0 → b ≡ set a (place j x) 0 → out (Done x 0) b ≡ unlinkCore rows i l
   unfolding unlinkCore
   unlink-done j x a b e ex n ea eb = simp (eb, ea, e, ← ex, ne-eqb _ _ n)

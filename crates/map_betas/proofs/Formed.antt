@@ -11,7 +11,7 @@ use lib.Dec.{ltb}
 use borrow.Author.Tests.{eq-eqb, eqb-true, not-false, ltb-false, le-ltb}
 use Rattle.map_betas.specs.declared.error.Answer.the-variants.{Refused}
 use Rattle.map_betas.specs.declared.error.Refusal.the-variants.{BadSize}
-use Rattle.map_betas.specs.Betas.{cell, beta, darts, opp}
+use Rattle.map_betas.specs.Betas.{place, beta, darts, opp}
 use Rattle.map_betas.specs.Answers.{pass, isDone}
 use Rattle.map_betas.specs.Maps.{Sized, badSize, sizeTest, breaks, breachAt, firstBreach, mapTest, checkMap, WellFormed}
 use Rattle.map_betas.proofs.AnswerLaws.{first-done, then-done}
@@ -62,7 +62,7 @@ module _ (rows : List ℕ) (s : Sized rows) where
         by-cases (decLt (beta rows i d) (darts rows)) (λ p. p)
         (λ p. absurd (true≢false (sym (breaks-far rows i d (omega arith)) ∙ h i d hi hd)))
 
-    clean-out : (i d : ℕ) → length rows ≤ cell i d → beta rows i d ≡ 0
+    clean-out : (i d : ℕ) → length rows ≤ place i d → beta rows i d ≡ 0
     clean-out i d l = List·getD-eq-default rows 0 l
 
     clean-real : (i d : ℕ) → i < 4 → beta rows i d ≢ 0 → d < darts rows
@@ -91,7 +91,7 @@ module _ (rows : List ℕ) (s : Sized rows) where
 
     clean-below-all : (i d : ℕ) → beta rows i d < darts rows
     clean-below-all i d =
-        by-cases (decLt (cell i d) (length rows))
+        by-cases (decLt (place i d) (length rows))
         (λ (p : 4 * d + i < length rows).
         let j : ℕ = 4 * d + i in
         let q : 4 * (j / 4) + j % 4 ≡ 4 * d + i = omega arith in

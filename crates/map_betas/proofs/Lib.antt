@@ -1,6 +1,7 @@
 -- The laws of the ground, each file over the ones before it.
 --   BetaLaws    the beta that leads back
 --   AnswerLaws  tests one after the other, and the call behind them
+--   Chains      going on by one beta until null or round, and the darts of a face chain
 --   MapLaws     the size test and each case of a breach
 --   Formed      both tests pass exactly where the rows are well formed
 --   Stores      a pair of stores that links or unlinks: which images change, and that a map stays a map
@@ -11,6 +12,7 @@
 --   ReadLaws    the tests of a read and each case of a free test
 pub mod BetaLaws
 pub mod AnswerLaws
+pub mod Chains
 pub mod MapLaws
 pub mod Formed
 pub mod Stores

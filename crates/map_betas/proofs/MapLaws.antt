@@ -96,7 +96,8 @@ module _ (rows : List ℕ) (i d : ℕ) where
   led-real j x y ej hi o ey z e w =
       z (sym e ∙ ey ∙ ap (beta rows j) w ∙ o j (rw ej (opp-lt i hi)))
 
-  pub breaks-led : (j x y : ℕ) → j ≡ opp i → i < 4 → NullRow rows → x ≡ beta rows i d → y ≡ beta rows j x → x < darts rows → d ≢ 0 → y ≡ d → (leb 2 i && eqb x d) ≡ breaks rows i d
+  pub breaks-led : (j x y : ℕ) → j ≡ opp i → i < 4 → NullRow rows → x ≡ beta rows i d → y ≡ beta rows j x → x < darts rows → d ≢ 0 → y ≡ d →
+      (leb 2 i && eqb x d) ≡ breaks rows i d
   unfolding breaks
   breaks-led j x y ej hi o ex ey h z e =
       simp (← ej, ← ex, ← ey, lt-leb _ _ h, ne-eqb _ _ z, eq-eqb _ _ e, ne-eqb _ _ (led-real j x y ej hi o ey z e), or-none (leb 2 i && eqb x d))

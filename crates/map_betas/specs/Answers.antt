@@ -3,15 +3,18 @@
 --   isDone a      whether a is no refusal
 --   andThen a b   a where it is a refusal, else b
 --   tellOf a      the number and the three values of a, as document 01's table has them
---   Out           an answer and the rows that are left
---   guarded       a call behind its tests: the refusal with the rows as they were, or the call
+--   Out           what a core leaves: an answer and the rows
+--   Outcome L     an answer and what is left of the loans, an L: their contents, in the order of the call's parameters
+--   given o       what a core leaves, as what a call leaves whose one loan is the rows
+--   behind        a call behind its tests: the refusal with every loan as it was, or the call
 use Prim.Native.Nat.{ℕ}
 use mathlib.Core.List.{List}
 use mathlib.Core.Bool.{Bool, true, false, cond}
 use Rattle.map_betas.specs.declared.error.Answer.{Answer}
 use Rattle.map_betas.specs.declared.error.Answer.the-variants.{Done, Refused}
 use Rattle.map_betas.specs.declared.error.Refusal.{Refusal}
-use Rattle.map_betas.specs.declared.error.Refusal.the-variants.{BadSize, ShortLoan, NotAMap, BadDart, BadBeta, NonFreeBase, NonFreeImage, AlreadyFree, AsymmetricalFaces, BadGeometry, PlanRoom, BadImage}
+use Rattle.map_betas.specs.declared.error.Refusal.the-variants.{BadSize, ShortLoan, NotAMap, BadDart, BadBeta, NonFreeBase}
+use Rattle.map_betas.specs.declared.error.Refusal.the-variants.{NonFreeImage, AlreadyFree, AsymmetricalFaces, BadGeometry, PlanRoom, BadImage}
 use Rattle.map_betas.specs.declared.error.Told.{Told}
 
 abbrev pub pass : Answer
@@ -54,6 +57,16 @@ pub record Out : Type 0 where
 abbrev pub out : Answer → List ℕ → Out
 out a rows = record { answer = a; rows = rows }
 
--- "After any refusal rows .. are unchanged."
-abbrev pub guarded : List ℕ → Answer → Out → Out
-guarded rows g o = cond (isDone g) o (out g rows)
+pub record Outcome (L : Type 0) : Type 0 where
+  pub answer : Answer
+  pub loans : L
+
+abbrev pub outcome : {L : Type 0} → Answer → L → Outcome L
+outcome a loans = record { answer = a; loans = loans }
+
+abbrev pub given : Out → Outcome (List ℕ)
+given o = outcome (o .answer) (o .rows)
+
+-- "After any refusal rows, vertices, plan and output are unchanged. Scratch: unchanged after 1 to 5"
+abbrev pub behind : {L : Type 0} → Answer → L → Outcome L → Outcome L
+behind g loans o = cond (isDone g) o (outcome g loans)

@@ -1,20 +1,23 @@
 -- A 3-map as a list of numbers.
---   cell i d         the place of the image of dart d by beta i
+--   place i d        the place of the image of dart d by beta i
 --   beta rows i d    that image; 0, the null dart, past the end
 --   darts rows       how many darts there are, the null dart counted
+--   larger a b       the larger of two images: where one is null, the other
 --   opp i            the beta that leads back from an image by beta i
 --   put rows i l r   the rows with l and r linked by beta i
 --   cut rows i l r   the rows with l and r unlinked by beta i
 use Prim.Native.Nat.{ℕ, zero, suc, _+_, _*_, _/_}
+use mathlib.Core.Bool.{cond}
 use mathlib.Core.List.{List}
+use lib.Dec.{leb}
 use lib.ListN.{length, getD, set}
 
 -- "Rows are lent u32 numbers: beta 0, 1, 2, 3 of dart 0, then of dart 1, and so on."
-abbrev pub cell : ℕ → ℕ → ℕ
-cell i d = 4 * d + i
+abbrev pub place : ℕ → ℕ → ℕ
+place i d = 4 * d + i
 
 abbrev pub beta : List ℕ → ℕ → ℕ → ℕ
-beta rows i d = getD rows (cell i d) 0
+beta rows i d = getD rows (place i d) 0
 
 -- "n darts, the null dart 0 counted"
 abbrev pub darts : List ℕ → ℕ
@@ -27,7 +30,11 @@ opp (suc zero) = 0
 opp (suc (suc i)) = suc (suc i)
 
 abbrev pub put : List ℕ → ℕ → ℕ → ℕ → List ℕ
-put rows i l r = set (set rows (cell i l) r) (cell (opp i) r) l
+put rows i l r = set (set rows (place i l) r) (place (opp i) r) l
 
 abbrev pub cut : List ℕ → ℕ → ℕ → ℕ → List ℕ
-cut rows i l r = set (set rows (cell i l) 0) (cell (opp i) r) 0
+cut rows i l r = set (set rows (place i l) 0) (place (opp i) r) 0
+
+-- "M(d) is the larger of the two named images."
+abbrev pub larger : ℕ → ℕ → ℕ
+larger a b = cond (leb a b) b a

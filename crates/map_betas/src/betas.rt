@@ -4,7 +4,7 @@ use crate::error::Refusal;
 ghost use mathlib.Core.Path.{_≡_};
 ghost use Prim.Native.Nat.{_+_, _*_, _≤_, _<_};
 ghost use lib.ListN.{length, set};
-ghost use Rattle.map_betas.specs.Betas.{beta, cell, opp};
+ghost use Rattle.map_betas.specs.Betas.{beta, place, opp, larger};
 ghost use Rattle.map_betas.specs.Answers.{out};
 ghost use Rattle.map_betas.specs.Cores.{linkCore, unlinkCore};
 
@@ -19,7 +19,7 @@ pub fn beta_at(rows: &[u32], i: u32, d: u32) -> u32
 // Stores x as the image of d by beta i.
 pub fn set_beta(rows: &mut [u32], i: u32, d: u32, x: u32)
     requires { ⌜ 4 * d + i < length (now rows) ⌝ }
-    ensures { λ _. ⌜ now (rows .exit) ≡ set (now (rows .entry)) (cell i d) x ⌝ }
+    ensures { λ _. ⌜ now (rows .exit) ≡ set (now (rows .entry)) (place i d) x ⌝ }
 {
     rows[4 * (d as usize) + (i as usize)] = x;
 }
@@ -29,6 +29,13 @@ pub fn opp_of(i: u32) -> u32
     ensures { λ r. ⌜ r ≡ opp i ⌝ }
 {
     if i < 2 { 1 - i } else { i }
+}
+
+// The larger of two images: the one that is not null, where one is.
+pub fn larger_of(a: u32, b: u32) -> u32
+    ensures { λ r. ⌜ r ≡ larger a b ⌝ }
+{
+    if a <= b { b } else { a }
 }
 
 // Links l and r by beta i: the base and the image have to be free.

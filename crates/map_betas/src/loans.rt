@@ -13,7 +13,7 @@ pub struct Loans {
 }
 
 // As long as any map could ask: three coordinates for each of 1,048,576 darts.
-pub const ENOUGH: usize = 3145728;
+const ENOUGH: usize = 3145728;
 
 // The loans of a call that has none.
 pub fn no_loans() -> Loans

@@ -54,7 +54,8 @@ pub fn dart_test(n: usize, least: u32, a: u32, b: u32) -> Answer
     Answer::Done(0, 0)
 }
 
-// The tests of every call on a map, in order. `least` is 1 where the null dart is refused, else 0. A call of one dart gives it twice, a call of none the null dart.
+// The tests of every call on a map, in order. `least` is 1 where the null dart is refused, else 0. A call of one dart gives it twice, a call of none the null
+// dart.
 pub fn guard(rows: &[u32], loans: Loans, least: u32, a: u32, b: u32) -> Answer
     ensures { λ r. ⌜ r ≡ guardOf (now (rows .entry)) loans least a b ⌝ }
 {

@@ -1,2 +1,3 @@
-// Reads and free tests.
+// Reads and free tests, and their answers as numbers.
 pub mod basic_ops;
+pub mod numbers;

@@ -1,5 +1,6 @@
 // The map test: the size of the rows, then the first image that breaks a rule. (dim3/structure.rs has the map whose rules these are.)
 use map_betas::betas::beta_at;
+use map_betas::betas::larger_of;
 use map_betas::betas::opp_of;
 use map_betas::error::Answer;
 use map_betas::error::Refusal;
@@ -87,16 +88,11 @@ fn least_breach(rows: &[u32], d: u32) -> u32
     4
 }
 
-// The larger of two numbers, so that one test tells that both are below a third.
-fn larger(a: u32, b: u32) -> u32
-    ensures { λ r. ⌜ (a ≤ r) × (b ≤ r) ⌝ }
-{
-    if a < b { b } else { a }
-}
-
-// True only where the images x and y of a real dart d by beta 2 and beta 3 break no rule: each leads back or is null. Where x is null, y is tested apart, since two ways that meet again are compiled to slower tests.
+// True only where the images x and y of a real dart d by beta 2 and beta 3 break no rule: each leads back or is null. Where x is null, y is tested apart, since
+// two ways that meet again are compiled to slower tests.
 fn sides_lead_back(rows: &[u32], d: u32, x: u32, y: u32) -> bool
-    requires { ⌜ (length (now rows) ≡ 4 * darts (now rows)) × (0 < d) × (x ≡ beta (now rows) 2 d) × (y ≡ beta (now rows) 3 d) × (x < darts (now rows)) × (y < darts (now rows)) ⌝ }
+    requires { ⌜ (length (now rows) ≡ 4 * darts (now rows)) × (0 < d) × (x ≡ beta (now rows) 2 d) × (y ≡ beta (now rows) 3 d) × (x < darts (now rows))
+        × (y < darts (now rows)) ⌝ }
     ensures { λ r. ⌜ (r ≡ true → (breaks (now (rows .entry)) 2 d ≡ false) × (breaks (now (rows .entry)) 3 d ≡ false)) ⌝ }
 {
     let back_x = beta_at(rows, 2, x);
@@ -119,7 +115,8 @@ fn sides_lead_back(rows: &[u32], d: u32, x: u32, y: u32) -> bool
     y != d
 }
 
-// True only where no image of a real dart d breaks a rule: the four are read at once and their range is tested by pairs. Those by beta 0 and beta 1 have to lead back, as nearly all do; a null one is left to `least_breach`.
+// True only where no image of a real dart d breaks a rule: the four are read at once and their range is tested by pairs. Those by beta 0 and beta 1 have to
+// lead back, as nearly all do; a null one is left to `least_breach`.
 fn leads_back(rows: &[u32], d: u32) -> bool
     requires { ⌜ (length (now rows) ≡ 4 * darts (now rows)) × (0 < d) × (d < darts (now rows)) ⌝ }
     ensures { λ r. ⌜ (r ≡ true → 4 ≡ breachAt (now (rows .entry)) d) ⌝ }
@@ -129,10 +126,10 @@ fn leads_back(rows: &[u32], d: u32) -> bool
     let x1 = beta_at(rows, 1, d);
     let x2 = beta_at(rows, 2, d);
     let x3 = beta_at(rows, 3, d);
-    if n <= larger(x0, x1) as usize {
+    if n <= larger_of(x0, x1) as usize {
         return false;
     }
-    if n <= larger(x2, x3) as usize {
+    if n <= larger_of(x2, x3) as usize {
         return false;
     }
     if beta_at(rows, 1, x0) != d {

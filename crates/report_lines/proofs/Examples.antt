@@ -10,7 +10,7 @@ use Rattle.map_betas.specs.Maps.{badSize, breaks, breachAt, firstBreach, mapTes
 use Rattle.cell_steps.specs.Steps.{image}
 use Rattle.cell_steps.specs.Search.{mem, add, visit, search, orbit}
 use Rattle.cell_steps.specs.Idents.{leastFrom, least, ident}
-use Rattle.cell_joins.specs.CellLists.{cellsFrom, cellsBy}
+use Rattle.cell_lists.specs.CellLists.{cellsFrom, cellsBy}
 use Rattle.cell_faces.specs.Faces.{fresh, insert, lower, turn, leg, forward, backward, faceWalk, faceId}
 use Rattle.image_words.specs.Lists.{listed}
 use Rattle.image_words.specs.Words.{word32}
@@ -31,7 +31,9 @@ triangle-report : reportOf false triangle ≡
     100 ∷ 97 ∷ 114 ∷ 116 ∷ 115 ∷ 32 ∷ 52 ∷ 32 ∷ 117 ∷ 115 ∷ 101 ∷ 100 ∷ 32 ∷ 51 ∷ 10 ∷ 118 ∷ 101 ∷ 114 ∷ 116 ∷ 105 ∷ 99 ∷ 101 ∷ 115 ∷ 32 ∷ 51 ∷ 58 ∷ 32 ∷ 49 ∷
     32 ∷ 50 ∷ 32 ∷ 51 ∷ 10 ∷ 101 ∷ 100 ∷ 103 ∷ 101 ∷ 115 ∷ 32 ∷ 51 ∷ 58 ∷ 32 ∷ 49 ∷ 32 ∷ 50 ∷ 32 ∷ 51 ∷ 10 ∷ 102 ∷ 97 ∷ 99 ∷ 101 ∷ 115 ∷ 32 ∷ 49 ∷ 58 ∷
     32 ∷ 49 ∷ 10 ∷ 118 ∷ 111 ∷ 108 ∷ 117 ∷ 109 ∷ 101 ∷ 115 ∷ 32 ∷ 49 ∷ 58 ∷ 32 ∷ 49 ∷ 10 ∷ []
-unfolding triangle badSize breaks breachAt firstBreach mapTest image mem add visit search orbit leastFrom least ident cellsFrom cellsBy fresh insert lower turn leg forward backward faceWalk faceId listed word32 unless startTest layoutTest bitsOnly flagsTest recordsGood verticesTest blocksTest digits itemsOf lineOf valueOf toldLine usedUpTo headLine classLine mapText answerOf imageText reportOf
+unfolding triangle badSize breaks breachAt firstBreach mapTest image mem add visit search orbit leastFrom least ident cellsFrom cellsBy fresh insert lower
+    turn leg forward backward faceWalk faceId listed word32 unless startTest layoutTest bitsOnly flagsTest recordsGood verticesTest blocksTest digits
+    itemsOf lineOf valueOf toldLine usedUpTo headLine classLine mapText answerOf imageText reportOf
 triangle-report = refl
 
 long-report : (bytes : List ℕ) → reportOf true bytes ≡ 114 ∷ 101 ∷ 102 ∷ 117 ∷ 115 ∷ 101 ∷ 100 ∷ 32 ∷ 49 ∷ 50 ∷ 32 ∷ 50 ∷ 32 ∷ 48 ∷ 32 ∷ 48 ∷ 10 ∷ []

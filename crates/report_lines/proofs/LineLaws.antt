@@ -23,12 +23,13 @@ use Rattle.map_betas.specs.Betas.{darts}
 use Rattle.cell_steps.specs.Loans.{Listed}
 use Rattle.cell_steps.specs.Calls.{wiped, written}
 use Rattle.cell_steps.proofs.ScratchLaws.{wiped-back}
-use Rattle.cell_names.specs.declared.identifiers.Class.{Class}
-use Rattle.cell_names.specs.declared.identifiers.Class.the-variants.{Vertex, Edge, Face, Volume}
+use Rattle.cell_steps.specs.declared.cells.Class.{Class}
+use Rattle.cell_steps.specs.declared.cells.Class.the-variants.{Vertex, Edge, Face, Volume}
 use Rattle.cell_names.specs.Cells.{listOf}
 use Rattle.report_text.specs.Texts.{decimal, put, lay, lineOf}
 use Rattle.report_text.proofs.TextLaws.{lay-then, lay-next}
-use Rattle.report_lines.specs.Report.{valueOf, refusedWord, dartsWord, usedWord, verticesWord, edgesWord, facesWord, volumesWord, toldLine, refusedLine, usedUpTo, headLine, classLine, mapText, listsOver}
+use Rattle.report_lines.specs.Report.{valueOf, refusedWord, dartsWord, usedWord, verticesWord, edgesWord, facesWord}
+use Rattle.report_lines.specs.Report.{volumesWord, toldLine, refusedLine, usedUpTo, headLine, classLine, mapText, listsOver}
 use Rattle.report_lines.proofs.Rooms.{value-room, decimal-room, items-front, class-room}
 
 pub value-next : (x : ℕ) (out : List ℕ) (at : ℕ) (o₁ o₂ : List ℕ) (a b : ℕ) → x < 18446744073709551616 →
@@ -116,17 +117,18 @@ head-is n used out at o₁ o₂ o₃ o₄ o₅ a b c d e v₁ v₂ room e₁ e�
     (lay-then out at t₂ (valueOf used) o₃ o₄ c d (omega arith)
     (lay-then out at t₁ usedWord o₂ o₃ b c (omega arith) (lay-then out at dartsWord (valueOf n) o₁ o₂ a b (omega arith) e₁ e₂) e₃) e₄) e₅
 
-pub head-length : (n used : ℕ) → length (headLine n used) ≡ 11 + length (valueOf n) + length (valueOf used)
+head-length : (n used : ℕ) → length (headLine n used) ≡ 11 + length (valueOf n) + length (valueOf used)
 unfolding headLine
 head-length n used = simp length-append (omega arith)
 
 -- the cells
 
-pub listed-line : (name l out o : List ℕ) (count : ℕ) → Listed l out o count → lineOf name o count ≡ lineOf name l (length l)
+listed-line : (name l out o : List ℕ) (count : ℕ) → Listed l out o count → lineOf name o count ≡ lineOf name l (length l)
 unfolding lineOf
 listed-line name l out o count h =
     ap (λ (k : ℕ). lineOf name o k) (h .count) ∙ ap (λ (x : List ℕ). lineOf name x (length l)) (h .places)
-    ∙ ap (λ (x : List ℕ). ((((name ++ (32 ∷ [])) ++ decimal (length l)) ++ (58 ∷ [])) ++ x) ++ (10 ∷ [])) (items-front l (drop (length l) out) (length l) (omega arith))
+    ∙ ap (λ (x : List ℕ). ((((name ++ (32 ∷ [])) ++ decimal (length l)) ++ (58 ∷ [])) ++ x) ++ (10 ∷ []))
+    (items-front l (drop (length l) out) (length l) (omega arith))
 
 pub listed-count : (l out o : List ℕ) (count : ℕ) → Listed l out o count → count ≤ length o
 listed-count l out o count h =

@@ -30,13 +30,14 @@ use Rattle.image_form.proofs.HeaderLaws.{header-done}
 use Rattle.image_form.proofs.StoredLaws.{rows-length}
 use Rattle.map_betas.specs.Guards.{readerLoans}
 use Rattle.image_reader.specs.Tests.{loansTest, blocksTest, imageTest}
-use Rattle.image_reader.specs.Content.{flagsOf}
+use Rattle.image_fill.specs.Content.{flagsOf}
 use Rattle.image_reader.specs.Reads.{Read, left, wrote, testOf, readWithin, Accepted}
 use Rattle.image_reader.proofs.Accepted.{loans-pass, accepted-by}
 use Rattle.cell_steps.specs.Calls.{wiped}
 use Rattle.report_lines.specs.Report.{refusedLine, mapText, answerOf, imageText, reportOf, listsOver, leaves, reportLeaves}
 
-module _ (bytes flags vertices : List ℕ) (coordinates : List Float) (rows : List ℕ) (rf : 1024 ≤ length flags) (rv : 1024 ≤ length vertices) (rc : 3072 ≤ length coordinates) (rr : 4096 ≤ length rows) where
+module _ (bytes flags vertices : List ℕ) (coordinates : List Float) (rows : List ℕ) (rf : 1024 ≤ length flags) (rv : 1024 ≤ length vertices)
+    (rc : 3072 ≤ length coordinates) (rr : 4096 ≤ length rows) where
   abbrev test : Answer
   test = testOf 1024 bytes flags vertices coordinates rows
 
@@ -56,7 +57,7 @@ module _ (bytes flags vertices : List ℕ) (coordinates : List Float) (rows : Li
       sym (stops (headerTest 1024 bytes) (headerTest 1024 bytes) _ refl e)
       ∙ stops (headerTest 1024 bytes) (headerTest 1024 bytes) _ refl e
 
-  pub test-is : test ≡ answerOf bytes
+  test-is : test ≡ answerOf bytes
   test-is = test-by (isDone (headerTest 1024 bytes)) refl
 
   module _ (a : Answer) (f v : List ℕ) (c : List Float) (r : List ℕ) (e : left a f v c r ≡ readWithin 1024 bytes flags vertices coordinates rows) where
@@ -65,7 +66,8 @@ module _ (bytes flags vertices : List ℕ) (coordinates : List Float) (rows : Li
     tested = ap (λ (x : Read). isDone (x .answer)) e ∙ go (isDone test) refl ∙ ap isDone test-is
       where
         go : (b : Bool) → isDone test ≡ b →
-            isDone (cond b (wrote bytes (dartsOf bytes) (verticesOf bytes) flags vertices coordinates rows) (left test flags vertices coordinates rows) .answer) ≡ isDone test
+            isDone (cond b (wrote bytes (dartsOf bytes) (verticesOf bytes) flags vertices coordinates rows)
+            (left test flags vertices coordinates rows) .answer) ≡ isDone test
         go true q = sym q
         go false q = refl
 
@@ -83,13 +85,14 @@ module _ (bytes flags vertices : List ℕ) (coordinates : List Float) (rows : Li
         ap refusedLine (refused-answer d) ∙ simp (em, q)
 
     -- a refusal leaves all loans as they were
-    pub left-refused : (m : Bool) → m ≡ false → isDone a ≡ false → (marks queue output : List ℕ) → leaves f v c r marks queue output ≡ reportLeaves m bytes flags vertices coordinates rows marks queue output
+    pub left-refused : (m : Bool) → m ≡ false → isDone a ≡ false → (marks queue output : List ℕ)
+        → leaves f v c r marks queue output ≡ reportLeaves m bytes flags vertices coordinates rows marks queue output
     unfolding readWithin reportLeaves
     left-refused m em d marks queue output =
         let q : isDone test ≡ false = ap isDone test-is ∙ sym tested ∙ d in
         let s : left a f v c r ≡ left test flags vertices coordinates rows = e ∙ simp q in
         let k : isDone (answerOf bytes) ≡ false = sym tested ∙ d in
-        ap (λ (x : Read). leaves (x .flags) (x .vertices) (x .coordinates) (x .rows) marks queue output) s ∙ simp (em, k)
+        ap (λ (x : Read). leaves (x .loans .flags) (x .loans .vertices) (x .loans .coordinates) (x .loans .rows) marks queue output) s ∙ simp (em, k)
 
     module _ (d : isDone a ≡ true) where
       passed : isDone test ≡ true
@@ -105,13 +108,13 @@ module _ (bytes flags vertices : List ℕ) (coordinates : List Float) (rows : Li
       pub rows-are : (n : ℕ) → n ≡ dartsOf bytes → take (4 * n) r ≡ rowsOf bytes (dartsOf bytes)
       unfolding wrote
       rows-are n en =
-          ap (λ (k : ℕ). take (4 * k) r) en ∙ ap (λ (x : Read). take (4 * dartsOf bytes) (x .rows)) written
+          ap (λ (k : ℕ). take (4 * k) r) en ∙ ap (λ (x : Read). take (4 * dartsOf bytes) (x .loans .rows)) written
           ∙ take-at (rowsOf bytes (dartsOf bytes)) (drop (4 * dartsOf bytes) rows) (4 * dartsOf bytes) (rows-length bytes (dartsOf bytes))
 
       pub flags-are : (n : ℕ) → n ≡ dartsOf bytes → take n f ≡ flagsOf bytes (dartsOf bytes)
       unfolding wrote
       flags-are n en =
-          ap (λ (k : ℕ). take k f) en ∙ ap (λ (x : Read). take (dartsOf bytes) (x .flags)) written
+          ap (λ (k : ℕ). take k f) en ∙ ap (λ (x : Read). take (dartsOf bytes) (x .loans .flags)) written
           ∙ take-at (flagsOf bytes (dartsOf bytes)) (drop (dartsOf bytes) flags) (dartsOf bytes)
           (listed-length _ (dartsOf bytes))
 
@@ -132,7 +135,8 @@ module _ (bytes flags vertices : List ℕ) (coordinates : List Float) (rows : Li
 
       -- an image that is read leaves what the reader wrote, and what the lists leave
       pub left-done : (m : Bool) → m ≡ false → (n : ℕ) → n ≡ dartsOf bytes → (marks queue output marks′ queue′ output′ : List ℕ) →
-          marks′ ≡ wiped (darts (take (4 * n) r)) marks → queue′ ≡ wiped (darts (take (4 * n) r)) queue → output′ ≡ listsOver (take (4 * n) r) (take n f) output →
+          marks′ ≡ wiped (darts (take (4 * n) r)) marks → queue′ ≡ wiped (darts (take (4 * n) r)) queue
+          → output′ ≡ listsOver (take (4 * n) r) (take n f) output →
           leaves f v c r marks′ queue′ output′ ≡ reportLeaves m bytes flags vertices coordinates rows marks queue output
       unfolding reportLeaves
       left-done m em n en marks queue output marks′ queue′ output′ a-is b-is c-is =
@@ -144,8 +148,11 @@ module _ (bytes flags vertices : List ℕ) (coordinates : List Float) (rows : Li
           c-is
           ∙ ap (λ (x : List ℕ). listsOver x (take n f) output) (rows-are n en)
           ∙ ap (λ (x : List ℕ). listsOver (rowsOf bytes (dartsOf bytes)) x output) (flags-are n en) in
-          ap (λ (x : Read). leaves (x .flags) (x .vertices) (x .coordinates) (x .rows) marks′ queue′ output′) written
-          ∙ (λ t. leaves (wrote bytes (dartsOf bytes) (verticesOf bytes) flags vertices coordinates rows .flags) (wrote bytes (dartsOf bytes) (verticesOf bytes) flags vertices coordinates rows .vertices) (wrote bytes (dartsOf bytes) (verticesOf bytes) flags vertices coordinates rows .coordinates) (wrote bytes (dartsOf bytes) (verticesOf bytes) flags vertices coordinates rows .rows) (m-is t) (q-is t) (o-is t))
+          ap (λ (x : Read). leaves (x .loans .flags) (x .loans .vertices) (x .loans .coordinates) (x .loans .rows) marks′ queue′ output′) written
+          ∙ (λ t. leaves (wrote bytes (dartsOf bytes) (verticesOf bytes) flags vertices coordinates rows .loans .flags)
+          (wrote bytes (dartsOf bytes) (verticesOf bytes) flags vertices coordinates rows .loans .vertices)
+          (wrote bytes (dartsOf bytes) (verticesOf bytes) flags vertices coordinates rows .loans .coordinates)
+          (wrote bytes (dartsOf bytes) (verticesOf bytes) flags vertices coordinates rows .loans .rows) (m-is t) (q-is t) (o-is t))
           ∙ simp (em, k)
 
 -- input that is too long leaves all loans as they were

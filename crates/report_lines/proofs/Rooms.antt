@@ -14,10 +14,10 @@ use lib.Dec.{eqb}
 use Rattle.map_betas.specs.Betas.{darts}
 use Rattle.cell_steps.specs.Steps.{vertex, edge, volume}
 use Rattle.cell_steps.specs.Idents.{ident}
-use Rattle.cell_joins.specs.CellLists.{cellsFrom, cellsBy}
+use Rattle.cell_lists.specs.CellLists.{cellsFrom, cellsBy}
 use Rattle.cell_faces.specs.Faces.{faceId}
-use Rattle.cell_names.specs.declared.identifiers.Class.{Class}
-use Rattle.cell_names.specs.declared.identifiers.Class.the-variants.{Vertex, Edge, Face, Volume}
+use Rattle.cell_steps.specs.declared.cells.Class.{Class}
+use Rattle.cell_steps.specs.declared.cells.Class.the-variants.{Vertex, Edge, Face, Volume}
 use Rattle.cell_names.specs.Cells.{listOf}
 use Rattle.report_text.specs.Texts.{decimal, itemsOf, lineOf}
 use Rattle.report_text.proofs.TextLaws.{line-length}
@@ -26,7 +26,7 @@ use Rattle.report_lines.specs.Report.{valueOf, classLine}
 
 -- numbers
 
-pub value-length : (x : ℕ) → length (valueOf x) ≡ 1 + length (decimal x)
+value-length : (x : ℕ) → length (valueOf x) ≡ 1 + length (decimal x)
 unfolding valueOf
 value-length x = length-append (32 ∷ []) (decimal x)
 
@@ -48,7 +48,7 @@ item-length : (list : List ℕ) (k : ℕ) → length (itemsOf list (suc k)) ≡ 
 unfolding itemsOf
 item-length list k = simp length-append (omega arith)
 
-pub items-short : (list : List ℕ) (k : ℕ) → ((j : ℕ) → getD list j 0 < 10000) → length (itemsOf list k) ≤ 5 * k
+items-short : (list : List ℕ) (k : ℕ) → ((j : ℕ) → getD list j 0 < 10000) → length (itemsOf list k) ≤ 5 * k
 unfolding itemsOf
 items-short list zero h = omega arith
 items-short list (suc k) h =
@@ -98,13 +98,13 @@ module _ (id : ℕ → ℕ) (flags : List ℕ) where
   unfolding cellsBy
   by-small n s j = from-small n 1 (n - 1) s (omega arith) j
 
-pub list-count : (class : Class) (rows flags : List ℕ) → length (listOf class rows flags) ≤ darts rows - 1
+list-count : (class : Class) (rows flags : List ℕ) → length (listOf class rows flags) ≤ darts rows - 1
 list-count Vertex rows flags = by-count (ident rows vertex) flags (darts rows)
 list-count Edge rows flags = by-count (ident rows edge) flags (darts rows)
 list-count Face rows flags = by-count (faceId rows) flags (darts rows)
 list-count Volume rows flags = by-count (ident rows volume) flags (darts rows)
 
-pub list-small : (class : Class) (rows flags : List ℕ) → 1 ≤ darts rows → (j : ℕ) → getD (listOf class rows flags) j 0 < darts rows
+list-small : (class : Class) (rows flags : List ℕ) → 1 ≤ darts rows → (j : ℕ) → getD (listOf class rows flags) j 0 < darts rows
 list-small Vertex rows flags s j = by-small (ident rows vertex) flags (darts rows) s j
 list-small Edge rows flags s j = by-small (ident rows edge) flags (darts rows) s j
 list-small Face rows flags s j = by-small (faceId rows) flags (darts rows) s j

@@ -27,11 +27,11 @@ use Rattle.map_betas.specs.Betas.{darts}
 use Rattle.image_form.specs.Form.{dartsOf, verticesOf, rowsOf}
 use Rattle.image_form.specs.Tests.{headerTest}
 use Rattle.image_reader.specs.Tests.{blocksTest}
-use Rattle.image_reader.specs.Content.{flagsOf}
+use Rattle.image_fill.specs.Content.{flagsOf}
 use Rattle.image_reader.specs.Reads.{wrote}
 use Rattle.cell_steps.specs.Calls.{wiped, written}
-use Rattle.cell_names.specs.declared.identifiers.Class.{Class}
-use Rattle.cell_names.specs.declared.identifiers.Class.the-variants.{Vertex, Edge, Face, Volume}
+use Rattle.cell_steps.specs.declared.cells.Class.{Class}
+use Rattle.cell_steps.specs.declared.cells.Class.the-variants.{Vertex, Edge, Face, Volume}
 use Rattle.cell_names.specs.Cells.{listOf}
 use Rattle.report_text.specs.Texts.{decimal, lineOf}
 
@@ -130,5 +130,6 @@ reportLeaves more bytes flags vertices coordinates rows marks queue output =
     let n = dartsOf bytes in
     let read = wrote bytes n (verticesOf bytes) flags vertices coordinates rows in
     cond (not more && isDone (answerOf bytes))
-    (leaves (read .flags) (read .vertices) (read .coordinates) (read .rows) (wiped n marks) (wiped n queue) (listsOver (rowsOf bytes n) (flagsOf bytes n) output))
+    (leaves (read .loans .flags) (read .loans .vertices) (read .loans .coordinates) (read .loans .rows) (wiped n marks) (wiped n queue)
+    (listsOver (rowsOf bytes n) (flagsOf bytes n) output))
     (leaves flags vertices coordinates rows marks queue output)

@@ -1,9 +1,9 @@
 // The lines of the report.
 use cell_names::enumerators::cells_core;
-use cell_names::identifiers::Class;
-use cell_search::scratch::wipe_marks;
+use cell_scratch::scratch::wipe_marks;
+use cell_steps::cells::Class;
+use map_answers::told::tell;
 use map_betas::error::Answer;
-use map_betas::error::tell;
 use report_text::put_byte;
 use report_text::put_bytes;
 use report_text::put_line;
@@ -81,9 +81,13 @@ pub fn put_class(
     class: Class,
     name: &[u8],
 ) -> usize
-    requires { ⌜ WellFormed (now rows) × (darts (now rows) ≤ 1024) × (darts (now rows) ≤ length (now marks)) × (darts (now rows) ≤ length (now queue)) × (darts (now rows) ≤ length (now output)) × (darts (now rows) ≤ length (now flags)) × (at + length (now name) + 5122 ≤ length (now text)) ⌝ }
-    ensures { λ r. ⌜ (put r (now (text .exit)) ≡ lay (now (text .entry)) at (classLine (now (name .entry)) class (now (rows .entry)) (now (flags .entry)))) × (r ≤ at + length (now (name .entry)) + 5122) ⌝ }
-    ensures { λ r. ⌜ (now (marks .exit) ≡ wiped (darts (now (rows .entry))) (now (marks .entry))) × (now (queue .exit) ≡ wiped (darts (now (rows .entry))) (now (queue .entry))) × (now (output .exit) ≡ written (listOf class (now (rows .entry)) (now (flags .entry))) (now (output .entry))) ⌝ }
+    requires { ⌜ WellFormed (now rows) × (darts (now rows) ≤ 1024) × (darts (now rows) ≤ length (now marks)) × (darts (now rows) ≤ length (now queue))
+        × (darts (now rows) ≤ length (now output)) × (darts (now rows) ≤ length (now flags)) × (at + length (now name) + 5122 ≤ length (now text)) ⌝ }
+    ensures { λ r. ⌜ (put r (now (text .exit)) ≡ lay (now (text .entry)) at (classLine (now (name .entry)) class (now (rows .entry)) (now (flags .entry))))
+        × (r ≤ at + length (now (name .entry)) + 5122) ⌝ }
+    ensures { λ r. ⌜ (now (marks .exit) ≡ wiped (darts (now (rows .entry))) (now (marks .entry)))
+        × (now (queue .exit) ≡ wiped (darts (now (rows .entry))) (now (queue .entry)))
+        × (now (output .exit) ≡ written (listOf class (now (rows .entry)) (now (flags .entry))) (now (output .entry))) ⌝ }
 {
     let n = rows.len() / 4;
     wipe_marks(marks, n);

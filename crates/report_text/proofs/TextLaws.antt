@@ -1,5 +1,4 @@
 -- The laws of text in a buffer. Assumes nothing.
---   laid-length        a buffer keeps its length
 --   lay-none           nothing is written
 --   lay-byte           one byte is stored behind what is written
 --   lay-then           text behind text
@@ -23,19 +22,11 @@ use Rattle.report_text.specs.Texts.{digits, decimal, laid, Put, put, lay
 front-length : (out : List ℕ) (at : ℕ) (a : List ℕ) → at ≤ length out → length (take at out ++ a) ≡ at + length a
 front-length out at a h = length-append (take at out) a ∙ ap (λ (k : ℕ). k + length a) (length-take-le at out h)
 
-pub laid-length : (out : List ℕ) (at : ℕ) (a : List ℕ) → at + length a ≤ length out → length (laid out at a) ≡ length out
-unfolding laid
-laid-length out at a h =
-    let f = front-length out at a (omega arith) in
-    let e = length-append (take at out ++ a) (drop (at + length a) out) in
-    let d = length-drop (at + length a) out in
-    omega arith
-
 append-nil : (l : List ℕ) → l ++ [] ≡ l
 append-nil [] = refl
 append-nil (x ∷ l) = ap (λ (k : List ℕ). x ∷ k) (append-nil l)
 
-pub laid-none : (out : List ℕ) (at : ℕ) → out ≡ laid out at []
+laid-none : (out : List ℕ) (at : ℕ) → out ≡ laid out at []
 unfolding laid
 laid-none out at =
     let p : at + 0 ≡ at = omega arith in
@@ -48,7 +39,7 @@ lay-none out at =
     ap (λ (k : ℕ). put k out) p ∙ ap (put (at + 0)) (laid-none out at)
 
 -- one more place
-pub laid-more : (out : List ℕ) (at : ℕ) (a : List ℕ) (b : ℕ) → at + length a < length out → set (laid out at a) (at + length a) b ≡ laid out at (a ++ (b ∷ []))
+laid-more : (out : List ℕ) (at : ℕ) (a : List ℕ) (b : ℕ) → at + length a < length out → set (laid out at a) (at + length a) b ≡ laid out at (a ++ (b ∷ []))
 unfolding laid
 laid-more out at a b h =
     let f = front-length out at a (omega arith) in
@@ -60,14 +51,15 @@ laid-more out at a b h =
     ∙ ap (λ (l : List ℕ). l ++ drop (suc (at + length a)) out) (append-assoc (take at out) a (b ∷ []))
     ∙ ap (λ (k : ℕ). (take at out ++ (a ++ (b ∷ []))) ++ drop k out) q)
 
-pub laid-laid : (out : List ℕ) (at : ℕ) (a b : List ℕ) → at + length a ≤ length out → laid (laid out at a) (at + length a) b ≡ laid out at (a ++ b)
+laid-laid : (out : List ℕ) (at : ℕ) (a b : List ℕ) → at + length a ≤ length out → laid (laid out at a) (at + length a) b ≡ laid out at (a ++ b)
 unfolding laid
 laid-laid out at a b h =
     let p : ℕ = at + length a in
     let f = front-length out at a (omega arith) in
     let t : take p ((take at out ++ a) ++ drop p out) ≡ take at out ++ a = take-at (take at out ++ a) (drop p out) p f in
     let d : drop (p + length b) ((take at out ++ a) ++ drop p out) ≡ drop (p + length b) out =
-    ap (λ (k : ℕ). drop (k + length b) ((take at out ++ a) ++ drop p out)) (sym f) ∙ drop-append-add (take at out ++ a) (drop p out) (length b) ∙ drop-drop (length b) p out in
+    ap (λ (k : ℕ). drop (k + length b) ((take at out ++ a) ++ drop p out)) (sym f) ∙ drop-append-add (take at out ++ a) (drop p out) (length b)
+    ∙ drop-drop (length b) p out in
     let q : p + length b ≡ at + length (a ++ b) = simp length-append (omega arith) in
     ap (λ (l : List ℕ). (l ++ b) ++ drop (p + length b) ((take at out ++ a) ++ drop p out)) t
     ∙ ap (λ (l : List ℕ). ((take at out ++ a) ++ b) ++ l) d

@@ -1,52 +1,20 @@
-// The report: the lines of a map, and the whole text for any input.
-use cell_names::identifiers::Class;
+// The report: the whole text for any input.
 use image_form::form::DARTS_AT;
 use image_reader::reader::read_within;
 use image_words::word_at;
 use map_betas::error::Answer;
 use map_betas::error::Refusal;
 use map_betas::error::is_done;
-use report_lines::lines::count_used;
-use report_lines::lines::put_class;
-use report_lines::lines::put_head;
 use report_lines::lines::put_refusal;
+use report_map::put_map;
 ghost use mathlib.Core.Path.{_≡_};
 ghost use Prim.Native.Nat.{_≤_};
 ghost use lib.ListN.{length};
-ghost use Rattle.map_betas.specs.Betas.{darts};
-ghost use Rattle.map_betas.specs.Maps.{WellFormed};
 ghost use Rattle.report_text.specs.Texts.{put, lay};
-ghost use Rattle.report_lines.specs.Report.{mapText, reportOf, listsOver, leaves, reportLeaves};
-ghost use Rattle.cell_steps.specs.Calls.{wiped};
+ghost use Rattle.report_lines.specs.Report.{reportOf, leaves, reportLeaves};
 
 // The most darts of an image that the report takes.
 pub const MOST: u32 = 1024;
-
-// Writes the five lines of a map.
-fn put_map(
-    rows: &[u32],
-    flags: &[u8],
-    marks: &mut [u8],
-    queue: &mut [u32],
-    out: &mut [u32],
-    text: &mut [u8],
-) -> usize
-    requires { ⌜ WellFormed (now rows) × (darts (now rows) ≤ 1024) × (1024 ≤ length (now marks)) × (1024 ≤ length (now queue)) × (1024 ≤ length (now out)) × (darts (now rows) ≤ length (now flags)) × (24576 ≤ length (now text)) ⌝ }
-    ensures { λ r. ⌜ (put r (now (text .exit)) ≡ lay (now (text .entry)) 0 (mapText (now (rows .entry)) (now (flags .entry)))) × (r ≤ 24576) ⌝ }
-    ensures { λ r. ⌜ (now (marks .exit) ≡ wiped (darts (now (rows .entry))) (now (marks .entry))) × (now (queue .exit) ≡ wiped (darts (now (rows .entry))) (now (queue .entry))) × (now (out .exit) ≡ listsOver (now (rows .entry)) (now (flags .entry)) (now (out .entry))) ⌝ }
-{
-    let n = rows.len() / 4;
-    let vertex = Class::Vertex;
-    let edge = Class::Edge;
-    let face = Class::Face;
-    let volume = Class::Volume;
-    let used = count_used(flags, n);
-    let h = put_head(text, 0, n, used);
-    let v = put_class(rows, flags, marks, queue, out, text, h, vertex, b"vertices");
-    let e = put_class(rows, flags, marks, queue, out, text, v, edge, b"edges");
-    let f = put_class(rows, flags, marks, queue, out, text, e, face, b"faces");
-    put_class(rows, flags, marks, queue, out, text, f, volume, b"volumes")
-}
 
 // Writes the report of an image; `more` says that the input has more bytes than are lent.
 pub fn report_text(
@@ -61,9 +29,13 @@ pub fn report_text(
     output: &mut [u32],
     text: &mut [u8],
 ) -> usize
-    requires { ⌜ (1024 ≤ length (now flags)) × (1024 ≤ length (now vertices)) × (3072 ≤ length (now coordinates)) × (4096 ≤ length (now rows)) × (1024 ≤ length (now marks)) × (1024 ≤ length (now queue)) × (1024 ≤ length (now output)) × (24576 ≤ length (now text)) ⌝ }
+    requires { ⌜ (1024 ≤ length (now flags)) × (1024 ≤ length (now vertices)) × (3072 ≤ length (now coordinates)) × (4096 ≤ length (now rows))
+        × (1024 ≤ length (now marks)) × (1024 ≤ length (now queue)) × (1024 ≤ length (now output)) × (24576 ≤ length (now text)) ⌝ }
     ensures { λ r. ⌜ (put r (now (text .exit)) ≡ lay (now (text .entry)) 0 (reportOf more (now (bytes .entry)))) × (r ≤ 24576) ⌝ }
-    ensures { λ r. ⌜ leaves (now (flags .exit)) (now (vertices .exit)) (now (coordinates .exit)) (now (rows .exit)) (now (marks .exit)) (now (queue .exit)) (now (output .exit)) ≡ reportLeaves more (now (bytes .entry)) (now (flags .entry)) (now (vertices .entry)) (now (coordinates .entry)) (now (rows .entry)) (now (marks .entry)) (now (queue .entry)) (now (output .entry)) ⌝ }
+    ensures { λ r. ⌜ leaves (now (flags .exit)) (now (vertices .exit)) (now (coordinates .exit)) (now (rows .exit))
+        (now (marks .exit)) (now (queue .exit)) (now (output .exit))
+        ≡ reportLeaves more (now (bytes .entry)) (now (flags .entry)) (now (vertices .entry)) (now (coordinates .entry)) (now (rows .entry))
+        (now (marks .entry)) (now (queue .entry)) (now (output .entry)) ⌝ }
 {
     if more {
         return put_refusal(text, 0, Answer::Refused(Refusal::BadImage(2)));

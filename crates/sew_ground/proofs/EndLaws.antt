@@ -9,19 +9,19 @@ use lib.Ieee.{Float}
 use Rattle.map_betas.specs.declared.error.Answer.{Answer}
 use Rattle.map_betas.specs.declared.error.Answer.the-variants.{Refused}
 use Rattle.map_betas.specs.declared.error.Refusal.the-variants.{BadGeometry}
-use Rattle.map_betas.specs.Betas.{beta, darts}
+use Rattle.map_betas.specs.Betas.{beta, darts, larger}
 use Rattle.map_betas.specs.Answers.{Out, out, isDone}
 use Rattle.map_betas.specs.Cores.{linkCore, unlinkCore}
 use Rattle.map_betas.specs.Guards.{Dart}
 use Rattle.map_betas.specs.Maps.{WellFormed}
 use Rattle.map_betas.proofs.Kept.{link-pair, unlink-pair, link-refused, unlink-refused, link-undoes, unlink-undoes}
-use Rattle.sew_plan.specs.declared.Class.the-variants.{Vertex}
+use Rattle.cell_steps.specs.declared.cells.Class.the-variants.{Vertex}
 use Rattle.sew_plan.specs.declared.Kind.{Kind}
 use Rattle.sew_plan.specs.declared.Kind.the-variants.{Merge, Split}
 use Rattle.sew_plan.specs.declared.Entry.{Entry}
 use Rattle.sew_ground.specs.Ids.{vertexId}
 use Rattle.sew_ground.specs.declared.sides.Side.{Side}
-use Rattle.sew_ground.specs.Entries.{entriesIf, larger}
+use Rattle.sew_ground.specs.Entries.{entriesIf}
 use Rattle.sew_ground.specs.Sewn.{leaves, dartOf, settles, settled, sewn}
 use Rattle.sew_ground.specs.One.{oneFar, oneEntries, oneLinks, oneUnlinks, oneSewOn, oneUnsewOn, takenBack, relinked}
 use Rattle.sew_ground.specs.Two.{sideOf, badSides, linkedSides, twoEntries, twoSewOn, twoUnsewOn}
@@ -30,7 +30,8 @@ use Rattle.sew_ground.proofs.OneBack.{links-kept, links-dart, taken-bac
 use Rattle.sew_ground.proofs.SewnLaws.{ends-refused, ends-tight, ends-done}
 
 -- the vertices of a 1-sew, from what the code has read
-pub one-items-are : (kind : Kind) (rows : List ℕ) (ld rd b₃ b₂ far vl vr : ℕ) (es : List Entry) → b₃ ≡ beta rows 3 ld → b₂ ≡ beta rows 2 ld → far ≡ larger b₃ b₂ →
+pub one-items-are : (kind : Kind) (rows : List ℕ) (ld rd b₃ b₂ far vl vr : ℕ) (es : List Entry) → b₃ ≡ beta rows 3 ld → b₂ ≡ beta rows 2 ld →
+    far ≡ larger b₃ b₂ →
     vl ≡ vertexId rows far → vr ≡ vertexId rows rd → es ≡ entriesIf (not (eqb far 0)) Vertex kind vl vr → es ≡ oneEntries kind rows ld rd
 unfolding oneEntries
 one-items-are kind rows ld rd b₃ b₂ far vl vr es p₃ p₂ pf pl pr pe =
@@ -86,7 +87,8 @@ module _ (rows plan : List ℕ) (ld : ℕ) (a : Answer) (rows₁ : List ℕ) (e 
       one-unsew-tight rows₂ r f =
           let d = done-of a rows₁ _ true e t in
           ends-tight rows plan _ d rd es (er ∙ ap dartOf (answer-of a rows₁ _ e)) entries b plan₁ s rows₂
-          (r ∙ ap (λ (x : List ℕ). relinked x ld rd) (rows-of a rows₁ _ e) ∙ ap (relinked (oneUnlinks rows ld .rows) ld) one-unsew-dart ∙ put-back rows ld w d) f
+          (r ∙ ap (λ (x : List ℕ). relinked x ld rd) (rows-of a rows₁ _ e) ∙ ap (relinked (oneUnlinks rows ld .rows) ld) one-unsew-dart
+          ∙ put-back rows ld w d) f
 
       pub one-unsew-done : isDone b ≡ true → leaves b rows₁ plan₁ ≡ sewn rows plan (oneUnsewOn rows ld)
       unfolding oneUnsewOn

@@ -1,5 +1,5 @@
 -- Entries that are there or not (`none-asked`, `none-differs`, `one-differs`), and entries written behind each other: in two parts (`written-both`),
--- as many as there is room for (`written-length`), and from a plan's start (`written-put`). Assumes nothing.
+-- and from a plan's start (`written-put`). Assumes nothing.
 use Prim.Native.Nat.{ℕ, _+_, _*_, _<_, _≤_}
 use native.Mathlib.Omega.{arith}
 use mathlib.Core.Path.{_≡_, refl, sym, ap, _∙_}
@@ -8,7 +8,7 @@ use mathlib.Core.Bool.{Bool, true, false}
 use mathlib.Core.List.{List, [], _∷_, _++_, append-assoc}
 use lib.ListN.{length, length-append}
 use borrow.Author.Tests.{eq-eqb, ne-eqb, le-leb, lt-leb}
-use Rattle.sew_plan.specs.declared.Class.{Class}
+use Rattle.cell_steps.specs.declared.cells.Class.{Class}
 use Rattle.sew_plan.specs.declared.Kind.{Kind}
 use Rattle.sew_plan.specs.declared.Entry.{Entry}
 use Rattle.sew_plan.specs.Plan.{width, written, putPlan}
@@ -16,7 +16,7 @@ use Rattle.sew_plan.proofs.PlanLaws.{write-next, put-none, length-written}
 use Rattle.sew_ground.specs.declared.items.Item.{Item}
 use Rattle.sew_ground.specs.declared.items.Item.the-variants.{Nothing, One}
 use Rattle.sew_ground.specs.declared.items.Items.{Items}
-use Rattle.sew_ground.specs.Entries.{entryOf, entriesIf, listed, allOf, writtenAll, larger}
+use Rattle.sew_ground.specs.Entries.{entryOf, entriesIf, listed, allOf, writtenAll}
 
 module _ (asked : Bool) (k : Class) (kind : Kind) (a b : ℕ) where
   pub none-asked : asked ≡ false → [] ≡ entriesIf asked k kind a b
@@ -30,12 +30,6 @@ module _ (asked : Bool) (k : Class) (kind : Kind) (a b : ℕ) where
   pub one-differs : (x : Entry) → asked ≡ true → a ≢ b → x ≡ entryOf k kind a b → x ∷ [] ≡ entriesIf asked k kind a b
   unfolding entriesIf
   one-differs x e n q = simp (e, ne-eqb a b n, q)
-
-pub larger-right : (a b : ℕ) → a ≤ b → b ≡ larger a b
-larger-right a b h = simp (le-leb a b h)
-
-pub larger-left : (a b : ℕ) → b < a → a ≡ larger a b
-larger-left a b h = simp (lt-leb a b h)
 
 -- the entries of the three items
 pub all-length : (items : Items) → length (allOf items) ≡ length (listed (items .first)) + length (listed (items .second)) + length (listed (items .third))
@@ -58,13 +52,6 @@ written-three plan p₁ p₂ p₃ k k₁ k₂ es fs gs e₁ q₁ e₂ q₂ e₃ 
     e₃ ∙ ap (λ (p : List ℕ). writtenAll p k₂ gs) e₂ ∙ ap (λ (j : ℕ). writtenAll (writtenAll p₁ k₁ fs) j gs) q₂ ∙ written-both p₁ k₁ fs gs
     ∙ ap (λ (p : List ℕ). writtenAll p k₁ (fs ++ gs)) e₁ ∙ ap (λ (j : ℕ). writtenAll (writtenAll plan k es) j (fs ++ gs)) q₁
     ∙ written-both plan k es (fs ++ gs)
-
-pub written-length : (plan : List ℕ) (k : ℕ) (es : List Entry) → width * (k + length es) ≤ length plan → length (writtenAll plan k es) ≡ length plan
-unfolding writtenAll
-written-length plan k [] h = refl
-written-length plan k (e ∷ es) h =
-    let q : length (written plan k e) ≡ length plan = length-written plan k e (omega arith) in
-    written-length (written plan k e) (k + 1) es (omega arith) ∙ q
 
 written-on : (plan : List ℕ) (es fs : List Entry) (k : ℕ) → k ≡ length es → writtenAll (putPlan es plan) k fs ≡ putPlan (es ++ fs) plan
 unfolding writtenAll

@@ -9,7 +9,7 @@ use Prim.Native.Nat.{ℕ}
 use native.Mathlib.Omega.{arith}
 use mathlib.Core.Path.{_≡_, refl, sym, ap, _∙_}
 use mathlib.Core.Logic.{_≢_}
-use mathlib.Core.Bool.{Bool, true, false, true≢false}
+use mathlib.Core.Bool.{Bool, true, false}
 use mathlib.Core.List.{List}
 use lib.ListN.{length}
 use borrow.Author.Tests.{eqb-true}
@@ -21,6 +21,7 @@ use Rattle.map_betas.specs.Answers.{Out, out, isDone, pass}
 use Rattle.map_betas.specs.Cores.{linkCore, unlinkCore}
 use Rattle.map_betas.specs.Guards.{Dart}
 use Rattle.map_betas.specs.Maps.{WellFormed}
+use Rattle.map_betas.proofs.AnswerLaws.{not-both, rows-same}
 use Rattle.map_betas.proofs.CoreLaws.{unlink-done}
 use Rattle.map_betas.proofs.Kept.{link-refused, unlink-refused, unlink-undoes, link-undoes, link-pair, unlink-pair}
 use Rattle.map_betas.proofs.Always.{link-formed, link-length, link-other, unlink-formed, unlink-length, unlink-other}
@@ -56,23 +57,14 @@ links-way rows ld rd = go (isDone (first rows ld rd .answer)) refl (bothThree ro
     go true ea true eb false es = turned ea es (simp (ea, eb, es))
     go true ea true eb true es = double ea eb es (simp (ea, eb, es))
 
-clash : (o p : Out) → o ≡ p → isDone (p .answer) ≡ false → isDone (o .answer) ≡ true → ⊥
-clash o p e f t = true≢false (sym t ∙ ap (λ (x : Out). isDone (x .answer)) e ∙ f)
-
-clash′ : (o p : Out) → o ≡ p → isDone (p .answer) ≡ true → isDone (o .answer) ≡ false → ⊥
-clash′ o p e f t = true≢false (sym f ∙ sym (ap (λ (x : Out). isDone (x .answer)) e) ∙ t)
-
-rows-eq : (o p : Out) → o ≡ p → o .rows ≡ p .rows
-rows-eq o p e = ap (λ (x : Out). x .rows) e
-
 pub links-kept : (rows : List ℕ) (ld rd : ℕ) → isDone (oneLinks rows ld rd .answer) ≡ false → oneLinks rows ld rd .rows ≡ rows
 links-kept rows ld rd t = go (links-way rows ld rd)
   where
     go : LinksWay rows ld rd → oneLinks rows ld rd .rows ≡ rows
-    go (stopped a e) = rows-eq _ _ e ∙ link-refused rows 1 ld rd a
-    go (single a b e) = absurd (clash′ _ _ e a t)
-    go (turned a s e) = rows-eq _ _ e
-    go (double a b s e) = absurd (clash′ _ _ e s t)
+    go (stopped a e) = rows-same _ _ e ∙ link-refused rows 1 ld rd a
+    go (single a b e) = absurd (not-both _ _ (sym e) t a)
+    go (turned a s e) = rows-same _ _ e
+    go (double a b s e) = absurd (not-both _ _ (sym e) t s)
 
 module _ (rows : List ℕ) (ld rd : ℕ) (w : WellFormed rows) (dl : Dart (darts rows) 1 ld) (dr : Dart (darts rows) 1 rd) where
   formed₁ : WellFormed (first rows ld rd .rows)
@@ -110,40 +102,40 @@ module _ (rows : List ℕ) (ld rd : ℕ) (w : WellFormed rows) (dl : Dart (darts
   links-formed = go (links-way rows ld rd)
     where
       go : LinksWay rows ld rd → WellFormed (oneLinks rows ld rd .rows) × (length (oneLinks rows ld rd .rows) ≡ length rows)
-      go (stopped a e) = rw (rows-eq _ _ e) (formed₁, length₁)
-      go (single a b e) = rw (rows-eq _ _ e) (formed₁, length₁)
-      go (turned a s e) = rw (rows-eq _ _ e) (w, refl)
-      go (double a b s e) = rw (rows-eq _ _ e) (formed₂ b, length₂ b)
+      go (stopped a e) = rw (rows-same _ _ e) (formed₁, length₁)
+      go (single a b e) = rw (rows-same _ _ e) (formed₁, length₁)
+      go (turned a s e) = rw (rows-same _ _ e) (w, refl)
+      go (double a b s e) = rw (rows-same _ _ e) (formed₂ b, length₂ b)
 
   module _ (t : isDone (oneLinks rows ld rd .answer) ≡ true) where
     pub links-dart : 0 ≡ dartOf (oneLinks rows ld rd .answer)
     links-dart = go (links-way rows ld rd)
       where
         go : LinksWay rows ld rd → 0 ≡ dartOf (oneLinks rows ld rd .answer)
-        go (stopped a e) = absurd (clash _ _ e a t)
+        go (stopped a e) = absurd (not-both _ _ e a t)
         go (single a b e) =
             sym (ap (λ (o : Out). dartOf (o .answer)) (e ∙ link-pair rows 1 ld rd w (omega arith) (omega arith) dl dr a .1))
-        go (turned a s e) = absurd (clash _ _ e s t)
+        go (turned a s e) = absurd (not-both _ _ e s t)
         go (double a b s e) =
             sym
             (ap (λ (o : Out). dartOf (o .answer))
             (e ∙ link-pair (first rows ld rd .rows) 1 _ _ formed₁ (omega arith) (omega arith) (dart-r b) (dart-l b) s .1))
 
     undone₁ : isDone (first rows ld rd .answer) ≡ true → unlinkCore (first rows ld rd .rows) 1 ld .rows ≡ rows
-    undone₁ a = rows-eq _ _ (unlink-undoes rows 1 ld rd w (omega arith) (omega arith) dl dr a)
+    undone₁ a = rows-same _ _ (unlink-undoes rows 1 ld rd w (omega arith) (omega arith) dl dr a)
 
     pub taken-back : takenBack (oneLinks rows ld rd .rows) ld rd ≡ rows
     taken-back = go (links-way rows ld rd)
       where
         go : LinksWay rows ld rd → takenBack (oneLinks rows ld rd .rows) ld rd ≡ rows
-        go (stopped a e) = absurd (clash _ _ e a t)
+        go (stopped a e) = absurd (not-both _ _ e a t)
         go (single a b e) =
-            ap (λ (x : List ℕ). takenBack x ld rd) (rows-eq _ _ e)
+            ap (λ (x : List ℕ). takenBack x ld rd) (rows-same _ _ e)
             ∙ ap (λ (x : List ℕ). unlinkCore x 1 ld .rows) (sym (cut-none (first rows ld rd .rows) ld rd (both-same rows _ ld rd three₁ ∙ b)))
             ∙ undone₁ a
-        go (turned a s e) = absurd (clash _ _ e s t)
+        go (turned a s e) = absurd (not-both _ _ e s t)
         go (double a b s e) =
-            ap (λ (x : List ℕ). takenBack x ld rd) (rows-eq _ _ e)
+            ap (λ (x : List ℕ). takenBack x ld rd) (rows-same _ _ e)
             ∙ ap (λ (x : List ℕ). unlinkCore x 1 ld .rows)
             (sym
             (cut-some (second rows ld rd .rows) ld rd (beta rows 3 rd) _ (first rows ld rd .rows) (both-same rows _ ld rd (three₂ b) ∙ b) (sym (three₂ b rd))
@@ -174,9 +166,9 @@ pub unlinks-kept : (rows : List ℕ) (ld : ℕ) → isDone (oneUnlinks rows ld .
 unlinks-kept rows ld t = go (unlinks-way rows ld)
   where
     go : UnlinksWay rows ld → oneUnlinks rows ld .rows ≡ rows
-    go (refused a e) = rows-eq _ _ e ∙ unlink-refused rows 1 ld a
-    go (stray x f e) = rows-eq _ _ e
-    go (through a b e) = absurd (clash′ _ _ e a t)
+    go (refused a e) = rows-same _ _ e ∙ unlink-refused rows 1 ld a
+    go (stray x f e) = rows-same _ _ e
+    go (through a b e) = absurd (not-both _ _ (sym e) t a)
 
 agrees-back : (rows : List ℕ) (ld rd : ℕ) → bothThree rows ld rd ≡ true → agrees rows ld rd ≡ true → beta rows 1 (beta rows 3 rd) ≡ beta rows 3 ld
 unfolding agrees
@@ -193,19 +185,19 @@ module _ (rows : List ℕ) (ld : ℕ) (w : WellFormed rows) where
   unlinks-formed = go (unlinks-way rows ld)
     where
       go : UnlinksWay rows ld → WellFormed (oneUnlinks rows ld .rows) × (length (oneUnlinks rows ld .rows) ≡ length rows)
-      go (refused a e) = rw (rows-eq _ _ e) (cut₁, cut-length₁)
-      go (stray x f e) = rw (rows-eq _ _ e) (w, refl)
+      go (refused a e) = rw (rows-same _ _ e) (cut₁, cut-length₁)
+      go (stray x f e) = rw (rows-same _ _ e) (w, refl)
       go (through a b e) =
           let v = cut-formed (parted rows ld .rows) ld (beta rows 1 ld) cut₁ in
-          rw (rows-eq _ _ e) (v .0, v .1 ∙ cut-length₁)
+          rw (rows-same _ _ e) (v .0, v .1 ∙ cut-length₁)
 
   module _ (t : isDone (oneUnlinks rows ld .answer) ≡ true) where
     pub unlinks-dart : dartOf (oneUnlinks rows ld .answer) ≡ beta rows 1 ld
     unlinks-dart = go (unlinks-way rows ld)
       where
         go : UnlinksWay rows ld → dartOf (oneUnlinks rows ld .answer) ≡ beta rows 1 ld
-        go (refused a e) = absurd (clash _ _ e a t)
-        go (stray x f e) = absurd (clash _ _ e f t)
+        go (refused a e) = absurd (not-both _ _ e a t)
+        go (stray x f e) = absurd (not-both _ _ e f t)
         go (through a b e) =
             ap (λ (o : Out). dartOf (o .answer)) e ∙ ap (λ (o : Out). dartOf (o .answer)) (unlink-pair rows 1 ld w (omega arith) (omega arith) a .1)
 
@@ -216,7 +208,7 @@ module _ (rows : List ℕ) (ld : ℕ) (w : WellFormed rows) where
         rd = beta rows 1 ld
 
         linked : isDone (parted rows ld .answer) ≡ true → linkCore (parted rows ld .rows) 1 ld (beta rows 1 ld) .rows ≡ rows
-        linked a = rows-eq _ _ (link-undoes rows 1 ld w (omega arith) (omega arith) a)
+        linked a = rows-same _ _ (link-undoes rows 1 ld w (omega arith) (omega arith) a)
 
         second-back : isDone (parted rows ld .answer) ≡ true → agrees (parted rows ld .rows) ld (beta rows 1 ld) ≡ true → (b : Bool) →
             bothThree (parted rows ld .rows) ld (beta rows 1 ld) ≡ b →
@@ -241,9 +233,9 @@ module _ (rows : List ℕ) (ld : ℕ) (w : WellFormed rows) where
             (sym (link-undoes x 1 r3 cut₁ (omega arith) (omega arith) s) ∙ ap (linkCore y 1 r3) q))
 
         go : UnlinksWay rows ld → relinked (oneUnlinks rows ld .rows) ld (beta rows 1 ld) ≡ rows
-        go (refused a e) = absurd (clash _ _ e a t)
-        go (stray x f e) = absurd (clash _ _ e f t)
+        go (refused a e) = absurd (not-both _ _ e a t)
+        go (stray x f e) = absurd (not-both _ _ e f t)
         go (through a b e) =
-            ap (λ (x : List ℕ). relinked x ld (beta rows 1 ld)) (rows-eq _ _ e)
+            ap (λ (x : List ℕ). relinked x ld (beta rows 1 ld)) (rows-same _ _ e)
             ∙ ap (λ (x : List ℕ). linkCore x 1 ld (beta rows 1 ld) .rows) (second-back a b (bothThree (parted rows ld .rows) ld (beta rows 1 ld)) refl)
             ∙ linked a

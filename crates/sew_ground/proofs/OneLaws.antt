@@ -96,7 +96,8 @@ both-yes rows ld rd x n e = simp (ne-eqb (beta rows 3 ld) 0 n, e)
 -- the images by beta 3 do not change
 pub both-same : (rows rows′ : List ℕ) (ld rd : ℕ) → ((d : ℕ) → beta rows′ 3 d ≡ beta rows 3 d) → bothThree rows′ ld rd ≡ bothThree rows ld rd
 unfolding bothThree
-both-same rows rows′ ld rd h = ap (λ (x : ℕ). not (eqb x 0) && not (eqb (beta rows′ 3 rd) 0)) (h ld) ∙ ap (λ (x : ℕ). not (eqb (beta rows 3 ld) 0) && not (eqb x 0)) (h rd)
+both-same rows rows′ ld rd h = ap (λ (x : ℕ). not (eqb x 0) && not (eqb (beta rows′ 3 rd) 0)) (h ld)
+    ∙ ap (λ (x : ℕ). not (eqb (beta rows 3 ld) 0) && not (eqb x 0)) (h rd)
 
 pub real : (rows : List ℕ) (i d : ℕ) → WellFormed rows → beta rows i d ≢ 0 → Dart (darts rows) 1 (beta rows i d)
 real rows i d w n = record { allowed = omega arith; below = w .below i d }
@@ -128,7 +129,8 @@ module _ (rows : List ℕ) (ld rd : ℕ) where
     cut-formed = go (bothThree rows ld rd) refl
       where
         go : (b : Bool) → bothThree rows ld rd ≡ b →
-            WellFormed (cond b (unlinkCore rows 1 (beta rows 3 rd) .rows) rows) × (length (cond b (unlinkCore rows 1 (beta rows 3 rd) .rows) rows) ≡ length rows)
+            WellFormed (cond b (unlinkCore rows 1 (beta rows 3 rd) .rows) rows)
+            × (length (cond b (unlinkCore rows 1 (beta rows 3 rd) .rows) rows) ≡ length rows)
         go true e =
             (unlink-formed rows 1 (beta rows 3 rd) w (omega arith) (omega arith), unlink-length rows 1 (beta rows 3 rd) w (omega arith) (omega arith))
         go false e = (w, refl)

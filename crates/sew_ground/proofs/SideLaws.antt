@@ -1,28 +1,27 @@
 -- A side, from what the code has read (`side-is`); identifiers and far ends that are darts (`..-below`, `slot-lent`); scratch that is as it was
--- (`scratch-same`, `scratch-on`). Assumes nothing.
+-- (`clean-same`, `clean-on`). Assumes nothing.
 use Prim.Native.Nat.{ℕ, _*_, _/_, _<_, _≤_}
 use native.Mathlib.Omega.{arith}
 use native.Mathlib.Decide.{decLt}
 use mathlib.Core.Path.{_≡_, sym, ap, _∙_}
 use mathlib.Core.Logic.{by-cases}
 use mathlib.Core.List.{List}
-use native.Mathlib.Nat.{lt-of-le-of-lt, le-of-eq}
+use native.Mathlib.Nat.{lt-of-le-of-lt}
 use Rattle.cell_steps.specs.Steps.{vertex}
-use Rattle.cell_steps.specs.Loans.{AreSteps, Fit}
 use Rattle.cell_steps.proofs.IdentLaws.{ident-le}
 use lib.ListN.{length}
 use lib.Ieee.{Float}
-use Rattle.map_betas.specs.Betas.{beta, darts}
+use Rattle.map_betas.specs.Betas.{beta, darts, larger}
 use Rattle.map_betas.specs.Maps.{WellFormed}
 use Rattle.sew_points.specs.Geometry.{Lent}
-use Rattle.sew_ground.specs.Ids.{vertexId, edgeId, Scratch}
+use Rattle.sew_ground.specs.Ids.{vertexId, edgeId}
+use Rattle.cell_steps.specs.Loans.{Clean}
 use Rattle.sew_ground.specs.declared.sides.Side.{Side}
-use Rattle.sew_ground.specs.Entries.{larger}
 use Rattle.sew_ground.specs.Two.{farOf, sideOf}
-use Rattle.sew_ground.proofs.EntryLaws.{larger-left, larger-right}
+use Rattle.map_betas.proofs.BetaLaws.{larger-left, larger-right}
 
-pub scratch-same : (n : ℕ) (m q m′ q′ : List ℕ) → Scratch n m q → m′ ≡ m → q′ ≡ q → Scratch n m′ q′
-scratch-same n m q m′ q′ s e f = rw (e, f) s
+pub clean-same : (n : ℕ) (m q m′ q′ : List ℕ) → Clean n m q → m′ ≡ m → q′ ≡ q → Clean n m′ q′
+clean-same n m q m′ q′ s e f = rw (e, f) s
 
 pub larger-below : (n a b : ℕ) → a < n → b < n → larger a b < n
 larger-below n a b ha hb =
@@ -37,8 +36,8 @@ side-is rows d b₁ b₃ far e n v p₁ p₃ pf pe pn pv =
     λ t. record { far = q t; edge = pe t; near = pn t; end = q₂ t }
 
 -- scratch for the same number of darts
-pub scratch-on : (rows rows₁ m q : List ℕ) → length rows₁ ≡ length rows → Scratch (darts rows) m q → Scratch (darts rows₁) m q
-scratch-on rows rows₁ m q e s = rw (ap (λ (k : ℕ). k / 4) e) s
+pub clean-on : (rows rows₁ m q : List ℕ) → length rows₁ ≡ length rows → Clean (darts rows) m q → Clean (darts rows₁) m q
+clean-on rows rows₁ m q e s = rw (ap (λ (k : ℕ). k / 4) e) s
 
 -- an identifier is a dart
 pub vertex-below : (rows : List ℕ) (d : ℕ) → WellFormed rows → d < darts rows → vertexId rows d < darts rows
@@ -56,10 +55,6 @@ module _ (rows : List ℕ) (d : ℕ) (s : Side) (w : WellFormed rows) (h : d < d
   unfolding sideOf
   end-below = rw (ap (λ (x : Side). x .end) e) (vertex-below rows (farOf rows d) w (far-below rows d w))
 
-pub slot-lent : (n x : ℕ) (vertices : List ℕ) (coordinates : List Float) → x < n → n ≤ length vertices → 3 * n ≤ length coordinates → Lent vertices coordinates x
+pub slot-lent : (n x : ℕ) (vertices : List ℕ) (coordinates : List Float) → x < n → n ≤ length vertices → 3 * n ≤ length coordinates →
+    Lent vertices coordinates x
 slot-lent n x vertices coordinates h a b = (omega arith, omega arith)
-
--- the scratch of a sew fits the cores
-pub scratch-fits : (rows steps marks queue : List ℕ) → WellFormed rows → AreSteps steps → Scratch (darts rows) marks queue → Fit rows steps marks queue
-scratch-fits rows steps marks queue w a s =
-    record { formed = w; marks-n = s .marks-n; out-n = le-of-eq (sym (s .queue-n)); are-steps = a }

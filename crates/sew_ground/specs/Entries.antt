@@ -3,12 +3,11 @@
 --   entriesIf asked c k a b   that entry, where it is asked for and a and b differ
 --   listed, allOf          the entries of an item; of the three items of a pair
 --   writtenAll plan k es   the plan with es written from its entry number k on
---   larger a b             document 01's M: the larger of two images
 use Prim.Native.Nat.{ℕ, _+_}
 use mathlib.Core.Bool.{Bool, cond, not, _&&_}
 use mathlib.Core.List.{List, [], _∷_, _++_}
-use lib.Dec.{eqb, leb}
-use Rattle.sew_plan.specs.declared.Class.{Class}
+use lib.Dec.{eqb}
+use Rattle.cell_steps.specs.declared.cells.Class.{Class}
 use Rattle.sew_plan.specs.declared.Kind.{Kind}
 use Rattle.sew_plan.specs.declared.Kind.the-variants.{Merge, Split}
 use Rattle.sew_plan.specs.declared.Entry.{Entry}
@@ -34,7 +33,3 @@ allOf items = listed (items .first) ++ (listed (items .second) ++ listed (items 
 unfoldable pub writtenAll : List ℕ → ℕ → List Entry → List ℕ
 writtenAll plan k [] = plan
 writtenAll plan k (e ∷ es) = writtenAll (written plan k e) (k + 1) es
-
--- "M(d) is the larger of the two named images."
-abbrev pub larger : ℕ → ℕ → ℕ
-larger a b = cond (leb a b) b a

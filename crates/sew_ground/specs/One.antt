@@ -11,15 +11,15 @@ use mathlib.Core.List.{List}
 use lib.Dec.{eqb}
 use Rattle.map_betas.specs.declared.error.Answer.the-variants.{Refused}
 use Rattle.map_betas.specs.declared.error.Refusal.the-variants.{AsymmetricalFaces}
-use Rattle.map_betas.specs.Betas.{beta}
+use Rattle.map_betas.specs.Betas.{beta, larger}
 use Rattle.map_betas.specs.Answers.{Out, out, isDone}
 use Rattle.map_betas.specs.Cores.{linkCore, unlinkCore}
-use Rattle.sew_plan.specs.declared.Class.the-variants.{Vertex}
+use Rattle.cell_steps.specs.declared.cells.Class.the-variants.{Vertex}
 use Rattle.sew_plan.specs.declared.Kind.{Kind}
 use Rattle.sew_plan.specs.declared.Kind.the-variants.{Merge, Split}
 use Rattle.sew_plan.specs.declared.Entry.{Entry}
 use Rattle.sew_ground.specs.Ids.{vertexId}
-use Rattle.sew_ground.specs.Entries.{entriesIf, larger}
+use Rattle.sew_ground.specs.Entries.{entriesIf}
 use Rattle.sew_ground.specs.Sewn.{Work, work, dartOf}
 
 unfoldable pub bothThree : List ℕ → ℕ → ℕ → Bool

@@ -10,16 +10,16 @@ use lib.Dec.{eqb}
 use lib.Ieee.{Float}
 use Rattle.map_betas.specs.declared.error.Answer.the-variants.{Refused}
 use Rattle.map_betas.specs.declared.error.Refusal.the-variants.{BadGeometry}
-use Rattle.map_betas.specs.Betas.{beta}
+use Rattle.map_betas.specs.Betas.{beta, larger}
 use Rattle.map_betas.specs.Cores.{linkCore, unlinkCore}
-use Rattle.sew_plan.specs.declared.Class.the-variants.{Vertex, Edge}
+use Rattle.cell_steps.specs.declared.cells.Class.the-variants.{Vertex, Edge}
 use Rattle.sew_plan.specs.declared.Kind.{Kind}
 use Rattle.sew_plan.specs.declared.Kind.the-variants.{Merge, Split}
 use Rattle.sew_plan.specs.declared.Entry.{Entry}
 use Rattle.sew_points.specs.Geometry.{badGeometry}
 use Rattle.sew_ground.specs.Ids.{vertexId, edgeId}
 use Rattle.sew_ground.specs.declared.sides.Side.{Side}
-use Rattle.sew_ground.specs.Entries.{entriesIf, larger}
+use Rattle.sew_ground.specs.Entries.{entriesIf}
 use Rattle.sew_ground.specs.Sewn.{Work, work, dartOf}
 
 -- "m1 = M(beta 1, beta 3) of ld, m2 of rd"

@@ -1,5 +1,5 @@
 // The entries of one pair of darts: at most three, each there or not.
-use sew_plan::Class;
+use cell_steps::cells::Class;
 use sew_plan::Entry;
 use sew_plan::Kind;
 ghost use mathlib.Core.Path.{_≡_};

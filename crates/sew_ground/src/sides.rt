@@ -1,17 +1,17 @@
 // What a sew asks of a dart: the cells at its two ends.
-use crate::ids::edge_at;
-use crate::ids::vertex_at;
 use crate::items::Items;
 use crate::items::item_if;
+use cell_orbits::core::name_core;
+use cell_steps::cells::Class;
 use map_betas::betas::beta_at;
-use sew_plan::Class;
+use map_betas::betas::larger_of;
 use sew_plan::Kind;
 ghost use mathlib.Core.Path.{_≡_};
 ghost use Prim.Native.Nat.{_<_};
 ghost use Rattle.map_betas.specs.Betas.{darts};
 ghost use Rattle.map_betas.specs.Maps.{WellFormed};
-ghost use Rattle.sew_ground.specs.Ids.{Scratch};
-ghost use Rattle.sew_ground.specs.Entries.{larger, allOf};
+ghost use Rattle.cell_steps.specs.Loans.{Clean};
+ghost use Rattle.sew_ground.specs.Entries.{allOf};
 ghost use Rattle.sew_ground.specs.Two.{sideOf, twoEntries};
 
 // A dart's far end, its edge, its vertex and the vertex of its far end.
@@ -22,23 +22,16 @@ pub struct Side {
     pub end: u32,
 }
 
-// The larger of two images: the one that is not null, where one is.
-pub fn larger_of(a: u32, b: u32) -> u32
-    ensures { λ r. ⌜ r ≡ larger a b ⌝ }
-{
-    if a <= b { b } else { a }
-}
-
 // The side of d in a 2-sew: its far end is by beta 1, or by beta 3 where the face is open.
 pub fn side_at(rows: &[u32], marks: &mut [u8], queue: &mut [u32], d: u32) -> Side
-    requires { ⌜ WellFormed (now rows) × (d < darts (now rows)) × Scratch (darts (now rows)) (now marks) (now queue) ⌝ }
+    requires { ⌜ WellFormed (now rows) × (d < darts (now rows)) × Clean (darts (now rows)) (now marks) (now queue) ⌝ }
     ensures { λ r. ⌜ r ≡ sideOf (now (rows .entry)) d ⌝ }
     ensures { λ r. ⌜ (now (marks .exit) ≡ now (marks .entry)) × (now (queue .exit) ≡ now (queue .entry)) ⌝ }
 {
     let far = larger_of(beta_at(rows, 1, d), beta_at(rows, 3, d));
-    let edge = edge_at(rows, marks, queue, d);
-    let near = vertex_at(rows, marks, queue, d);
-    let end = vertex_at(rows, marks, queue, far);
+    let edge = name_core(rows, Class::Edge, marks, queue, d);
+    let near = name_core(rows, Class::Vertex, marks, queue, d);
+    let end = name_core(rows, Class::Vertex, marks, queue, far);
     Side {
         far,
         edge,

@@ -1,43 +1,11 @@
-// The calls: sews and unsews for any rows, loans and darts.
-use cell_search::scratch::wipe_marks;
-use cell_search::scratch::wipe_queue;
+// The calls: sews and unsews for any rows, loans and darts. Those that have no vertices lend the operation one slot that it does not look at.
+use crate::operations::Operation;
+use crate::operations::operate;
 use map_betas::error::Answer;
-use map_betas::error::is_done;
-use map_betas::loans::scratch;
-use map_betas::loans::vertex_loans;
-use map_guard::guard::guard;
-use sew_one::one::one_sew_on;
-use sew_one::one::one_unsew_on;
-use sew_two::two::two_sew_on;
-use sew_two::two::two_unsew_on;
 ghost use mathlib.Core.Path.{_≡_};
-ghost use Prim.Native.Nat.{_*_, _/_, _≤_};
-ghost use lib.ListN.{length};
-ghost use Rattle.map_betas.specs.Betas.{darts};
-ghost use Rattle.map_betas.specs.Maps.{WellFormed};
-ghost use Rattle.map_betas.specs.Guards.{Dart};
-ghost use Rattle.sew_ground.specs.Sewn.{sewn};
-ghost use Rattle.sew_ground.specs.One.{oneSewOn, oneUnsewOn};
-ghost use Rattle.sew_ground.specs.Two.{twoSewOn, twoUnsewOn};
-ghost use Rattle.sew_ground.specs.Calls.{sewLeft, sewDone, oneSew, oneUnsew, twoSew, twoUnsew};
-
-// The 1-sew behind the tests: scratch is wiped, and its first n places lent to the core.
-fn one_sew_done(
-    rows: &mut [u32],
-    marks: &mut [u8],
-    queue: &mut [u32],
-    plan: &mut [u32],
-    ld: u32,
-    rd: u32,
-) -> Answer
-    requires { ⌜ WellFormed (now rows) × (darts (now rows) ≤ length (now marks)) × (darts (now rows) ≤ length (now queue)) × Dart (darts (now rows)) 1 ld × Dart (darts (now rows)) 1 rd ⌝ }
-    ensures { λ a. ⌜ sewLeft a (now (rows .exit)) (now (marks .exit)) (now (queue .exit)) (now (plan .exit)) ≡ sewDone (darts (now (rows .entry))) (now (marks .entry)) (now (queue .entry)) (sewn (now (rows .entry)) (now (plan .entry)) (oneSewOn (now (rows .entry)) ld rd)) ⌝ }
-{
-    let n = rows.len() / 4;
-    wipe_marks(marks, n);
-    wipe_queue(queue, n);
-    one_sew_on(rows, &mut marks[..n], &mut queue[..n], plan, ld, rd)
-}
+ghost use Rattle.map_betas.specs.Answers.{outcome};
+ghost use Rattle.sew_ground.specs.Calls.{oneSew, oneUnsew, twoSew, twoUnsew};
+ghost use Rattle.sew_pairs.specs.Calls.{threeUnsew};
 
 // The 1-sew.
 pub fn one_sew(
@@ -48,30 +16,22 @@ pub fn one_sew(
     ld: u32,
     rd: u32,
 ) -> Answer
-    ensures { λ a. ⌜ sewLeft a (now (rows .exit)) (now (marks .exit)) (now (queue .exit)) (now (plan .exit)) ≡ oneSew (now (rows .entry)) (now (marks .entry)) (now (queue .entry)) (now (plan .entry)) ld rd ⌝ }
+    ensures { λ a. ⌜ outcome a (now (rows .exit), now (marks .exit), now (queue .exit), now (plan .exit))
+        ≡ oneSew (now (rows .entry)) (now (marks .entry)) (now (queue .entry)) (now (plan .entry)) ld rd ⌝ }
 {
-    let g = guard(rows, scratch(marks.len(), queue.len()), 1, ld, rd);
-    if !is_done(g) {
-        return g;
-    }
-    one_sew_done(rows, marks, queue, plan, ld, rd)
-}
-
-// The 1-unsew behind the tests: scratch is wiped, and its first n places lent to the core.
-fn one_unsew_done(
-    rows: &mut [u32],
-    marks: &mut [u8],
-    queue: &mut [u32],
-    plan: &mut [u32],
-    ld: u32,
-) -> Answer
-    requires { ⌜ WellFormed (now rows) × (darts (now rows) ≤ length (now marks)) × (darts (now rows) ≤ length (now queue)) × Dart (darts (now rows)) 1 ld ⌝ }
-    ensures { λ a. ⌜ sewLeft a (now (rows .exit)) (now (marks .exit)) (now (queue .exit)) (now (plan .exit)) ≡ sewDone (darts (now (rows .entry))) (now (marks .entry)) (now (queue .entry)) (sewn (now (rows .entry)) (now (plan .entry)) (oneUnsewOn (now (rows .entry)) ld)) ⌝ }
-{
-    let n = rows.len() / 4;
-    wipe_marks(marks, n);
-    wipe_queue(queue, n);
-    one_unsew_on(rows, &mut marks[..n], &mut queue[..n], plan, ld)
+    let vertices = [0u8; 1];
+    let coordinates = [0.0; 1];
+    operate(
+        Operation::OneSew,
+        rows,
+        marks,
+        queue,
+        &vertices,
+        &coordinates,
+        plan,
+        ld,
+        rd,
+    )
 }
 
 // The 1-unsew.
@@ -82,42 +42,21 @@ pub fn one_unsew(
     plan: &mut [u32],
     ld: u32,
 ) -> Answer
-    ensures { λ a. ⌜ sewLeft a (now (rows .exit)) (now (marks .exit)) (now (queue .exit)) (now (plan .exit)) ≡ oneUnsew (now (rows .entry)) (now (marks .entry)) (now (queue .entry)) (now (plan .entry)) ld ⌝ }
+    ensures { λ a. ⌜ outcome a (now (rows .exit), now (marks .exit), now (queue .exit), now (plan .exit))
+        ≡ oneUnsew (now (rows .entry)) (now (marks .entry)) (now (queue .entry)) (now (plan .entry)) ld ⌝ }
 {
-    let g = guard(rows, scratch(marks.len(), queue.len()), 1, ld, ld);
-    if !is_done(g) {
-        return g;
-    }
-    one_unsew_done(rows, marks, queue, plan, ld)
-}
-
-// The 2-sew behind the tests: scratch is wiped, and its first n places lent to the core.
-fn two_sew_done(
-    rows: &mut [u32],
-    marks: &mut [u8],
-    queue: &mut [u32],
-    vertices: &[u8],
-    coordinates: &[f64],
-    plan: &mut [u32],
-    ld: u32,
-    rd: u32,
-) -> Answer
-    requires { ⌜ WellFormed (now rows) × (darts (now rows) ≤ length (now marks)) × (darts (now rows) ≤ length (now queue)) × Dart (darts (now rows)) 1 ld × Dart (darts (now rows)) 1 rd ⌝ }
-    requires { ⌜ (darts (now rows) ≤ length (now vertices)) × (3 * darts (now rows) ≤ length (now coordinates)) ⌝ }
-    ensures { λ a. ⌜ sewLeft a (now (rows .exit)) (now (marks .exit)) (now (queue .exit)) (now (plan .exit)) ≡ sewDone (darts (now (rows .entry))) (now (marks .entry)) (now (queue .entry)) (sewn (now (rows .entry)) (now (plan .entry)) (twoSewOn (now (vertices .entry)) (now (coordinates .entry)) (now (rows .entry)) ld rd)) ⌝ }
-{
-    let n = rows.len() / 4;
-    wipe_marks(marks, n);
-    wipe_queue(queue, n);
-    two_sew_on(
+    let vertices = [0u8; 1];
+    let coordinates = [0.0; 1];
+    operate(
+        Operation::OneUnsew,
         rows,
-        &mut marks[..n],
-        &mut queue[..n],
-        vertices,
-        coordinates,
+        marks,
+        queue,
+        &vertices,
+        &coordinates,
         plan,
         ld,
-        rd,
+        ld,
     )
 }
 
@@ -132,36 +71,20 @@ pub fn two_sew(
     ld: u32,
     rd: u32,
 ) -> Answer
-    ensures { λ a. ⌜ sewLeft a (now (rows .exit)) (now (marks .exit)) (now (queue .exit)) (now (plan .exit)) ≡ twoSew (now (rows .entry)) (now (marks .entry)) (now (queue .entry)) (now (vertices .entry)) (now (coordinates .entry)) (now (plan .entry)) ld rd ⌝ }
+    ensures { λ a. ⌜ outcome a (now (rows .exit), now (marks .exit), now (queue .exit), now (plan .exit))
+        ≡ twoSew (now (rows .entry)) (now (marks .entry)) (now (queue .entry)) (now (vertices .entry)) (now (coordinates .entry)) (now (plan .entry)) ld rd ⌝ }
 {
-    let g = guard(
+    operate(
+        Operation::TwoSew,
         rows,
-        vertex_loans(marks.len(), queue.len(), vertices.len(), coordinates.len()),
-        1,
+        marks,
+        queue,
+        vertices,
+        coordinates,
+        plan,
         ld,
         rd,
-    );
-    if !is_done(g) {
-        return g;
-    }
-    two_sew_done(rows, marks, queue, vertices, coordinates, plan, ld, rd)
-}
-
-// The 2-unsew behind the tests: scratch is wiped, and its first n places lent to the core.
-fn two_unsew_done(
-    rows: &mut [u32],
-    marks: &mut [u8],
-    queue: &mut [u32],
-    plan: &mut [u32],
-    ld: u32,
-) -> Answer
-    requires { ⌜ WellFormed (now rows) × (darts (now rows) ≤ length (now marks)) × (darts (now rows) ≤ length (now queue)) × Dart (darts (now rows)) 1 ld ⌝ }
-    ensures { λ a. ⌜ sewLeft a (now (rows .exit)) (now (marks .exit)) (now (queue .exit)) (now (plan .exit)) ≡ sewDone (darts (now (rows .entry))) (now (marks .entry)) (now (queue .entry)) (sewn (now (rows .entry)) (now (plan .entry)) (twoUnsewOn (now (rows .entry)) ld)) ⌝ }
-{
-    let n = rows.len() / 4;
-    wipe_marks(marks, n);
-    wipe_queue(queue, n);
-    two_unsew_on(rows, &mut marks[..n], &mut queue[..n], plan, ld)
+    )
 }
 
 // The 2-unsew.
@@ -172,11 +95,46 @@ pub fn two_unsew(
     plan: &mut [u32],
     ld: u32,
 ) -> Answer
-    ensures { λ a. ⌜ sewLeft a (now (rows .exit)) (now (marks .exit)) (now (queue .exit)) (now (plan .exit)) ≡ twoUnsew (now (rows .entry)) (now (marks .entry)) (now (queue .entry)) (now (plan .entry)) ld ⌝ }
+    ensures { λ a. ⌜ outcome a (now (rows .exit), now (marks .exit), now (queue .exit), now (plan .exit))
+        ≡ twoUnsew (now (rows .entry)) (now (marks .entry)) (now (queue .entry)) (now (plan .entry)) ld ⌝ }
 {
-    let g = guard(rows, scratch(marks.len(), queue.len()), 1, ld, ld);
-    if !is_done(g) {
-        return g;
-    }
-    two_unsew_done(rows, marks, queue, plan, ld)
+    let vertices = [0u8; 1];
+    let coordinates = [0.0; 1];
+    operate(
+        Operation::TwoUnsew,
+        rows,
+        marks,
+        queue,
+        &vertices,
+        &coordinates,
+        plan,
+        ld,
+        ld,
+    )
+}
+
+// The 3-unsew.
+pub fn three_unsew(
+    rows: &mut [u32],
+    marks: &mut [u8],
+    queue: &mut [u32],
+    plan: &mut [u32],
+    ld: u32,
+) -> Answer
+    ensures { λ a. ⌜ outcome a (now (rows .exit), now (marks .exit), now (queue .exit), now (plan .exit))
+        ≡ threeUnsew (now (rows .entry)) (now (marks .entry)) (now (queue .entry)) (now (plan .entry)) ld ⌝ }
+{
+    let vertices = [0u8; 1];
+    let coordinates = [0.0; 1];
+    operate(
+        Operation::ThreeUnsew,
+        rows,
+        marks,
+        queue,
+        &vertices,
+        &coordinates,
+        plan,
+        ld,
+        ld,
+    )
 }

@@ -19,5 +19,7 @@ use Rattle.sew_pairs.specs.Calls.{threeUnsew}
 use Rattle.sew_pairs.specs.Examples.{lines}
 
 pub agree : calls lines ≡ sayings lines
-unfolding lines calls sayings threeUnsew guardOf loanTest noDart mapTest firstBreach breachAt breaks badSize threeUnlinkOn unlinkCore stepOf walk image mem add visit search orbit leastFrom least ident splitOf planOf putPlan entriesIf settled sewn threeFar pairEntries legOver entriesFrom tallied tallyFrom startTally firstTally backTally wholeTally firstEntries backEntries splitsOf threeEntries threeUnsewOn
+unfolding lines calls sayings threeUnsew guardOf loanTest noDart mapTest firstBreach breachAt breaks badSize threeUnlinkOn unlinkCore stepOf walk image mem add
+    visit search orbit leastFrom least ident splitOf planOf putPlan entriesIf settled sewn threeFar pairEntries legOver entriesFrom tallied tallyFrom startTally
+    firstTally backTally wholeTally firstEntries backEntries splitsOf threeEntries threeUnsewOn
 agree = refl

@@ -1,6 +1,5 @@
 -- The legs, turn by turn, with the values as the code has them.
 --   over-null, over-at      whether a leg is over
---   lesser-left, lesser-right   the lesser of two darts
 --   pair-exact, pair-loose  how many entries a pair counts for
 --   noted, tallied-below    a tally with one pair more, and the pair that comes next
 --   tally-over, tally-next, tally-none     a turn of the loop that tallies
@@ -34,12 +33,6 @@ module _ (l stop : ℕ) where
   unfolding legOver
   over-at n = simp (ne-eqb l 0 n)
 
-pub lesser-left : (a b : ℕ) → a ≤ b → a ≡ lesserOf a b
-lesser-left a b h = simp (le-leb a b h)
-
-pub lesser-right : (a b : ℕ) → b < a → b ≡ lesserOf a b
-lesser-right a b h = simp (lt-leb a b h)
-
 -- how many entries a pair counts for
 module _ (exact : Bool) (rows : List ℕ) (l r : ℕ) where
   pub pair-exact : (k : ℕ) (es : List Entry) → exact ≡ true → k ≡ length es → es ≡ pairEntries rows l r → k ≡ pairCount exact rows l r
@@ -57,7 +50,8 @@ unfolding tallied
 noted exact rows i j t a b k x y ea eb ek ex ey =
     λ s. record { left = ea s; right = eb s; count = t .count + ek s; l = ex s; r = ey s }
 
-pub tallied-below : (exact : Bool) (rows : List ℕ) (i j : ℕ) (t u : Tally) → WellFormed rows → u ≡ tallied exact rows i j t → (u .l < darts rows) × (u .r < darts rows)
+pub tallied-below : (exact : Bool) (rows : List ℕ) (i j : ℕ) (t u : Tally) → WellFormed rows → u ≡ tallied exact rows i j t → (u .l < darts rows)
+    × (u .r < darts rows)
 unfolding tallied
 tallied-below exact rows i j t u w e = rw e (w .below i (t .l), w .below j (t .r))
 
@@ -132,7 +126,8 @@ module _ (exact loose : Bool) (rows : List ℕ) (i j stop : ℕ) where
       let e : legOver (t .l) stop ≡ legOver (u .l) stop = ap (λ (x : ℕ). legOver x stop) (h .2) in
       rw e (go (legOver (u .l) stop))
     where
-      go : (b : Bool) → Alike (cond b t (tallyFrom exact f rows i j stop (tallied exact rows i j t))) (cond b u (tallyFrom loose f rows i j stop (tallied loose rows i j u)))
+      go : (b : Bool) → Alike (cond b t (tallyFrom exact f rows i j stop (tallied exact rows i j t)))
+          (cond b u (tallyFrom loose f rows i j stop (tallied loose rows i j u)))
       go true = h
       go false = ih (tallied exact rows i j t) (tallied loose rows i j u) (one-more t u h)
 

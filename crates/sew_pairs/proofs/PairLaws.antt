@@ -14,16 +14,16 @@ use mathlib.Core.List.{List, [], _∷_, _++_}
 use lib.Dec.{eqb}
 use lib.ListN.{length, length-append}
 use borrow.Author.Tests.{eq-eqb, ne-eqb}
-use Rattle.map_betas.specs.Betas.{beta, darts}
+use Rattle.map_betas.specs.Betas.{beta, darts, larger}
 use Rattle.map_betas.specs.Maps.{WellFormed}
-use Rattle.sew_plan.specs.declared.Class.{Class}
-use Rattle.sew_plan.specs.declared.Class.the-variants.{Vertex, Edge}
+use Rattle.cell_steps.specs.declared.cells.Class.{Class}
+use Rattle.cell_steps.specs.declared.cells.Class.the-variants.{Vertex, Edge}
 use Rattle.sew_plan.specs.declared.Kind.{Kind}
 use Rattle.sew_plan.specs.declared.Kind.the-variants.{Split}
 use Rattle.sew_plan.specs.declared.Entry.{Entry}
 use Rattle.sew_ground.specs.Ids.{vertexId, edgeId}
 use Rattle.sew_ground.specs.declared.items.Item.{Item}
-use Rattle.sew_ground.specs.Entries.{entryOf, entriesIf, listed, allOf, larger}
+use Rattle.sew_ground.specs.Entries.{entryOf, entriesIf, listed, allOf}
 use Rattle.sew_ground.proofs.EntryLaws.{none-asked, three-items}
 use Rattle.sew_ground.proofs.SideLaws.{larger-below}
 use Rattle.sew_pairs.specs.Pairs.{threeFar, pairEntries, pairMost}

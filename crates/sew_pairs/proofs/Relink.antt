@@ -1,7 +1,6 @@
 -- A 3-link after a 3-unlink.
 --   had-image   a 3-unlink that is done was of a dart with an image
 --   answers     and answers that image
---   chain-to    a face chain is the same in rows with the same images by beta 0, 1 and 2
 --   matches     what a 3-unlink has parted faces each other: the images before it are a matching
 --   relinks     a 3-link of ld and its former image, after a 3-unlink that is done, gives back every row
 -- Assumes nothing.
@@ -18,21 +17,12 @@ use Rattle.map_betas.specs.declared.error.Answer.the-variants.{Done}
 use Rattle.map_betas.specs.Betas.{beta, darts}
 use Rattle.map_betas.specs.Answers.{Out, out, pass, isDone}
 use Rattle.map_betas.specs.Maps.{WellFormed}
+use Rattle.map_betas.proofs.Chains.{chain-alike}
 use Rattle.link_walk.specs.Three.{threeLinkOn, threeUnlinkOn}
 use Rattle.link_walk.proofs.Kept.{link-kept, unlink-kept}
-use Rattle.link_glue.specs.Matching.{Chain, first, on, back, Closed, Facing, Matching, Linked, Unlinkable, Unlinked}
+use Rattle.link_glue.specs.Matching.{Chain, ClosedChain, Facing, Matching, Linked, Unlinkable, Unlinked}
 use Rattle.link_glue.proofs.Found.{unlink-found}
 use Rattle.link_glue.proofs.Demand.{succeeds, links, says, free, unlinks-iff}
-
--- rows that differ in images by beta 3 alone
-module _ (ld : ℕ) (xs ys : List ℕ) (low : (i d : ℕ) → i < 3 → beta xs i d ≡ beta ys i d) where
-  pub chain-to : {d : ℕ} → Chain xs ld d → Chain ys ld d
-  chain-to first = first
-  chain-to (on {d} c n) = rw (low 1 d (omega arith)) (on (chain-to c) (λ z. n (low 1 d (omega arith) ∙ z)))
-  chain-to (back {d} c n) = rw (low 0 d (omega arith)) (back (chain-to c) (λ z. n (low 0 d (omega arith) ∙ z)))
-
-  pub closed-to : ((d : ℕ) → Chain ys ld d → Chain xs ld d) → Closed xs ld → Closed ys ld
-  closed-to k h = record { never-null = λ d c z. h .never-null d (k d c) (low 1 d (omega arith) ∙ z) }
 
 -- rows are equal where every image is
 images : (xs ys : List ℕ) → length xs ≡ length ys → ((i d : ℕ) → i < 4 → beta xs i d ≡ beta ys i d) → xs ≡ ys
@@ -56,10 +46,13 @@ module _ (rows : List ℕ) (ld : ℕ) (s : WellFormed rows) (nl : ld ≢ 0) (hl 
   did = unlink-found rows ld (beta rows 3 ld) s hl nl refl had-image t
 
   to : {d : ℕ} → Chain cut ld d → Chain rows ld d
-  to = chain-to ld cut rows (did .1 .lower)
+  to = chain-alike ld cut rows (λ i d h. did .1 .lower i d (omega arith))
 
   from : {d : ℕ} → Chain rows ld d → Chain cut ld d
-  from = chain-to ld rows cut (λ i d h. sym (did .1 .lower i d h))
+  from = chain-alike ld rows cut (λ i d h. sym (did .1 .lower i d (omega arith)))
+
+  closed : ClosedChain rows ld → ClosedChain cut ld
+  closed h = record { never-null = λ d c z. h .never-null d (to c) (sym (did .1 .lower 1 d (omega arith)) ∙ z) }
 
   again : (d : ℕ) → Chain cut ld d → beta rows 3 (beta rows 3 d) ≡ d
   again d c = s .back 3 d (omega arith) (did .0 .real d (to c))
@@ -72,7 +65,7 @@ module _ (rows : List ℕ) (ld : ℕ) (s : WellFormed rows) (nl : ld ≢ 0) (hl 
         steps =
             λ d c n k.
             low 0 (beta rows 3 d) (omega arith)
-            ∙ f .steps d (to c) (λ z. n (low 1 d (omega arith) ∙ z)) (λ cl z. k (closed-to ld rows cut (λ i x h. sym (low i x h)) (λ x g. to g) cl) (low 1 d (omega arith) ∙ z))
+            ∙ f .steps d (to c) (λ z. n (low 1 d (omega arith) ∙ z)) (λ h z. k (closed h) (low 1 d (omega arith) ∙ z))
             ∙ ap (λ (x : ℕ). beta rows 3 x) (sym (low 1 d (omega arith)));
         ends = λ d c z. low 0 (beta rows 3 d) (omega arith) ∙ f .ends d (to c) (sym (low 1 d (omega arith)) ∙ z);
       }
@@ -99,7 +92,8 @@ module _ (rows : List ℕ) (ld : ℕ) (s : WellFormed rows) (nl : ld ≢ 0) (hl 
       let hl′ : ld < darts cut = rw n hl in
       let hr′ : beta rows 3 ld < darts cut = rw n (s .below 3 ld) in
       let d = succeeds cut ld (beta rows 3 ld) w hl′ nl hr′ had-image .0 ((λ x. beta rows 3 x), matches) in
-      let m : Linked cut ld (λ x. beta rows 3 x) (threeLinkOn cut ld (beta rows 3 ld) .rows) = links cut ld (beta rows 3 ld) w hl′ nl hr′ had-image (λ x. beta rows 3 x) matches in
+      let m : Linked cut ld (λ x. beta rows 3 x) (threeLinkOn cut ld (beta rows 3 ld) .rows) =
+      links cut ld (beta rows 3 ld) w hl′ nl hr′ had-image (λ x. beta rows 3 x) matches in
       let e : threeLinkOn cut ld (beta rows 3 ld) .rows ≡ rows = same m (link-kept cut ld (beta rows 3 ld) w hl′ nl hr′ had-image .1 ∙ long) in
       let a : threeLinkOn cut ld (beta rows 3 ld) .answer ≡ pass = says cut ld (beta rows 3 ld) w hl′ nl hr′ had-image d in
       λ i. record { answer = a i; rows = e i }
@@ -117,5 +111,6 @@ module _ (rows : List ℕ) (ld : ℕ) (s : WellFormed rows) (nl : ld ≢ 0) (hl 
               (λ (y : beta zs 3 d ≡ beta rows 3 d). y)
               (λ (y : beta zs 3 d ≢ beta rows 3 d).
               let out-l : Chain cut ld d → ⊥ = λ c. y (k .left d c) in
-              let out-r : (x : ℕ) → Chain cut ld x → d ≢ beta rows 3 x = λ x c z. y (ap (λ (v : ℕ). beta zs 3 v) z ∙ k .right x c ∙ sym (again x c) ∙ ap (λ (v : ℕ). beta rows 3 v) (sym z)) in
+              let out-r : (x : ℕ) → Chain cut ld x →
+              d ≢ beta rows 3 x = λ x c z. y (ap (λ (v : ℕ). beta zs 3 v) z ∙ k .right x c ∙ sym (again x c) ∙ ap (λ (v : ℕ). beta rows 3 v) (sym z)) in
               k .others d out-l out-r ∙ did .1 .others d (λ c. out-l (from c)) (λ x c. out-r x (from c)))

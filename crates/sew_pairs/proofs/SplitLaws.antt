@@ -20,7 +20,7 @@ use lib.ListN.{length, length-append}
 use borrow.Author.Tests.{eq-eqb, ne-eqb}
 use Rattle.map_betas.specs.declared.error.Answer.the-variants.{Done}
 use Rattle.map_betas.specs.Betas.{beta}
-use Rattle.sew_plan.specs.declared.Class.the-variants.{Face}
+use Rattle.cell_steps.specs.declared.cells.Class.the-variants.{Face}
 use Rattle.sew_plan.specs.declared.Entry.{Entry}
 use Rattle.sew_plan.specs.Plan.{splitOf, written, roomOf}
 use Rattle.sew_ground.specs.Entries.{writtenAll}
@@ -45,7 +45,8 @@ module _ (exact : Bool) (rows : List ℕ) (ld rd : ℕ) where
   closed-tally t n = simp (ne-eqb (t .l) 0 n)
 
   pub open-tally : (t : Tally) (x y : ℕ) (u : Tally) → t .l ≡ 0 → x ≡ beta rows 0 ld → y ≡ beta rows 1 rd →
-      u ≡ tallyFrom exact (length rows) rows 0 1 0 (record { left = t .left; right = t .right; count = t .count; l = x; r = y }) → u ≡ wholeTally exact rows ld rd t
+      u ≡ tallyFrom exact (length rows) rows 0 1 0 (record { left = t .left; right = t .right; count = t .count; l = x; r = y }) →
+      u ≡ wholeTally exact rows ld rd t
   unfolding wholeTally backTally
   open-tally t x y u z ex ey e =
       e ∙ ap (tallyFrom exact (length rows) rows 0 1 0) (λ s. record { left = t .left; right = t .right; count = t .count; l = ex s; r = ey s })
@@ -93,7 +94,8 @@ module _ (f : ℕ) (rows : List ℕ) (i j stop l r : ℕ) (b : Bool) (e : b ≡ 
       let ps : List Entry = pairEntries rows l r in
       let fs : List Entry = entriesFrom (f - 1) rows i j stop x y in (
         omega (arith, q, ap (λ (z : List Entry). length z) s, length-append ps fs),
-        ap (λ (z : List ℕ). writtenAll z k₁ fs) p ∙ ap (λ (z : ℕ). writtenAll (writtenAll plan k ps) z fs) q ∙ written-both plan k ps fs ∙ ap (writtenAll plan k) s,
+        ap (λ (z : List ℕ). writtenAll z k₁ fs) p ∙ ap (λ (z : ℕ). writtenAll (writtenAll plan k ps) z fs) q ∙ written-both plan k ps fs
+            ∙ ap (writtenAll plan k) s,
       )
 
 pub leg-ends : (plan : List ℕ) (k : ℕ) (es : List Entry) (x : ℕ) (y : List ℕ) → [] ≡ es → k + length es ≡ x → writtenAll plan k es ≡ y → (k ≡ x) × (plan ≡ y)
@@ -115,7 +117,12 @@ module _ (rows : List ℕ) (ld rd : ℕ) (opened : Bool) (left right : ℕ) wher
       ≡ 1 + length (pairEntries rows ld rd) + length (firstEntries rows ld rd) + length (backEntries rows ld rd opened)
   unfolding splitsOf
   splits-length =
-      omega (arith, length-append (pairEntries rows ld rd) (firstEntries rows ld rd ++ backEntries rows ld rd opened), length-append (firstEntries rows ld rd) (backEntries rows ld rd opened))
+      omega (
+        arith,
+        length-append (pairEntries rows ld rd) (firstEntries rows ld rd ++ backEntries rows ld rd opened),
+        length-append
+            (firstEntries rows ld rd) (backEntries rows ld rd opened),
+      )
 
   pub splits-written : (plan p₁ p₂ p₃ : List ℕ) (e : Entry) (k n : ℕ) → e ≡ splitOf Face left right → p₁ ≡ written plan 0 e →
       p₂ ≡ writtenAll p₁ 1 (pairEntries rows ld rd ++ firstEntries rows ld rd) → k ≡ 1 + length (pairEntries rows ld rd ++ firstEntries rows ld rd) →
@@ -133,7 +140,8 @@ module _ (rows : List ℕ) (ld rd : ℕ) (opened : Bool) (left right : ℕ) wher
       )
 
 -- the entries fit, and are written
-pub written-done : (plan plan₁ : List ℕ) (d n k : ℕ) (es fs : List Entry) → es ≡ fs → n ≡ length es → plan₁ ≡ writtenAll plan 0 es → length fs ≤ k → k ≤ roomOf plan →
+pub written-done : (plan plan₁ : List ℕ) (d n k : ℕ) (es fs : List Entry) → es ≡ fs → n ≡ length es → plan₁ ≡ writtenAll plan 0 es → length fs ≤ k →
+    k ≤ roomOf plan →
     settles (Done d n) plan₁ ≡ settled plan d fs
 written-done plan plan₁ d n k es fs e en p h g =
     let m : n ≡ length fs = en ∙ ap (λ (x : List Entry). length x) e in
@@ -152,11 +160,13 @@ module _ (exact : Bool) (rows : List ℕ) (ld rd : ℕ) (t u : Tally) (et : t �
       next : Tally → Tally
       next x = record { left = x .left; right = x .right; count = x .count; l = beta rows 0 ld; r = beta rows 1 rd }
 
-      both : (x : Tally) → Alike t x → (b : Bool) → Alike (cond b (tallyFrom exact (length rows) rows 0 1 0 (next t)) t) (cond b (tallyFrom false (length rows) rows 0 1 0 (next x)) x)
+      both : (x : Tally) → Alike t x → (b : Bool) → Alike (cond b (tallyFrom exact (length rows) rows 0 1 0 (next t)) t)
+          (cond b (tallyFrom false (length rows) rows 0 1 0 (next x)) x)
       both x h true = agreed exact false rows 0 1 0 (length rows) (next t) (next x) (h .0, h .1, refl, refl)
       both x h false = h
 
-      go : (x : Tally) → Alike t x → Alike (cond (eqb (t .l) 0) (tallyFrom exact (length rows) rows 0 1 0 (next t)) t) (cond (eqb (x .l) 0) (tallyFrom false (length rows) rows 0 1 0 (next x)) x)
+      go : (x : Tally) → Alike t x → Alike (cond (eqb (t .l) 0) (tallyFrom exact (length rows) rows 0 1 0 (next t)) t)
+          (cond (eqb (x .l) 0) (tallyFrom false (length rows) rows 0 1 0 (next x)) x)
       go x h =
           let e : eqb (t .l) 0 ≡ eqb (x .l) 0 = ap (λ (y : ℕ). eqb y 0) (h .2) in
           rw e (both x h (eqb (x .l) 0))

@@ -16,7 +16,7 @@ use mathlib.Core.List.{List}
 use lib.ListN.{length}
 use Rattle.map_betas.specs.declared.error.Answer.{Answer}
 use Rattle.map_betas.specs.Betas.{beta, darts}
-use Rattle.map_betas.specs.Answers.{Out, out, isDone}
+use Rattle.map_betas.specs.Answers.{Out, out, isDone, Outcome, outcome, given}
 use Rattle.map_betas.specs.Guards.{Dart, scratchOf}
 use Rattle.map_betas.specs.Maps.{WellFormed}
 use Rattle.map_betas.proofs.GuardLaws.{ready}
@@ -26,20 +26,22 @@ use Rattle.link_walk.proofs.CallLaws.{inside}
 use Rattle.link_walk.proofs.Kept.{Keeps, unlink-kept, three-unlink-unmoved}
 use Rattle.sew_ground.specs.Sewn.{Work, leaves, dartOf, Settled, settles, settled, afterPlan, sewn}
 use Rattle.sew_ground.proofs.SewnLaws.{ends-refused, ends-tight, ends-done}
-use Rattle.sew_ground.specs.Calls.{sewLeft, sewDone, sewGuard}
+use Rattle.sew_ground.specs.Calls.{sewDone, sewGuard}
 use Rattle.sew_pairs.specs.Three.{threeEntries, threeUnsewOn}
 use Rattle.sew_pairs.specs.Calls.{threeUnsew}
 use Rattle.sew_pairs.proofs.Relink.{had-image, answers, relinks}
 
 -- a 3-unlink that refuses leaves the rows
-unmoved : (rows : List ℕ) (ld : ℕ) → WellFormed rows → Dart (darts rows) 1 ld → isDone (threeUnlinkOn rows ld .answer) ≡ false → threeUnlinkOn rows ld .rows ≡ rows
+unmoved : (rows : List ℕ) (ld : ℕ) → WellFormed rows → Dart (darts rows) 1 ld → isDone (threeUnlinkOn rows ld .answer) ≡ false →
+    threeUnlinkOn rows ld .rows ≡ rows
 unfolding threeUnlink
 unmoved rows ld w d t =
     let h : Real rows ld ld = (w, d .allowed, d .below, d .allowed, d .below) in
-    let e : threeUnlink rows ld ≡ threeUnlinkOn rows ld = inside rows ld ld (threeUnlinkOn rows ld) h in
-    ap (λ (o : Out). o .rows) (sym e) ∙ three-unlink-unmoved rows ld (ap (λ (o : Out). isDone (o .answer)) e ∙ t)
+    let e : threeUnlink rows ld ≡ given (threeUnlinkOn rows ld) = inside rows ld ld (given (threeUnlinkOn rows ld)) h in
+    ap (λ (o : Outcome (List ℕ)). o .loans) (sym e) ∙ three-unlink-unmoved rows ld (ap (λ (o : Outcome (List ℕ)). isDone (o .answer)) e ∙ t)
 
-module _ (rows : List ℕ) (ld : ℕ) (a : Answer) (rows₁ : List ℕ) (e : out a rows₁ ≡ threeUnlinkOn rows ld) (w : WellFormed rows) (d : Dart (darts rows) 1 ld) where
+module _ (rows : List ℕ) (ld : ℕ) (a : Answer) (rows₁ : List ℕ) (e : out a rows₁ ≡ threeUnlinkOn rows ld) (w : WellFormed rows)
+    (d : Dart (darts rows) 1 ld) where
   real : ld ≢ 0
   real = let h = d .allowed in omega arith
 
@@ -111,11 +113,14 @@ module _ (rows plan : List ℕ) (w : WellFormed rows) where
   unfolding threeUnsewOn
   three-kept ld d = let h = d .allowed in sewn-kept (threeUnsewOn rows ld) (unlink-kept rows ld w (d .below) (omega arith))
 
-pub call-kept : (rows marks queue plan : List ℕ) (ld : ℕ) → WellFormed rows → Keeps rows (threeUnsew rows marks queue plan ld .rows)
+pub call-kept : (rows marks queue plan : List ℕ) (ld : ℕ) → WellFormed rows → Keeps rows (threeUnsew rows marks queue plan ld .loans .0)
 unfolding threeUnsew
 call-kept rows marks queue plan ld w = go (isDone (sewGuard rows marks queue ld ld)) refl
   where
     go : (b : Bool) → isDone (sewGuard rows marks queue ld ld) ≡ b →
-        Keeps rows (cond b (sewDone (darts rows) marks queue (sewn rows plan (threeUnsewOn rows ld))) (sewLeft (sewGuard rows marks queue ld ld) rows marks queue plan) .rows)
+        Keeps rows
+        (cond b (sewDone (darts rows) marks queue (sewn rows plan (threeUnsewOn rows ld))) (outcome (sewGuard rows marks queue ld ld)
+        (rows, marks, queue, plan))
+        .loans .0)
     go true e = three-kept rows plan w ld (ready rows (scratchOf (length marks) (length queue)) 1 ld ld e .left)
     go false e = (w, refl)

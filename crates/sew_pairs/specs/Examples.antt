@@ -1,14 +1,16 @@
 -- The proved examples ("P") of document 01 for the 3-unsew, and the readings that tell its walk apart, as one table; `proofs/Agree.antt` has the
--- one claim over it. `Line`, `line` and the maps are of the crate `glue`.
+-- one claim over it. `Line`, `line` and the maps are of the crate `link_glue`.
 --   two-linked, part-linked   maps: "1 and 2 3-linked"; 3 before 1, and 2 and 3 3-linked
 --   zeros3, zeros4, zeros6, sevens   loans: three, four, six zeros; twelve numbers that are not 0
 --   lines                     the table
 use Prim.Native.Nat.{ℕ}
 use mathlib.Core.List.{List, [], _∷_, _++_}
+use Rattle.map_betas.specs.declared.error.Answer.{Answer}
 use Rattle.map_betas.specs.declared.error.Answer.the-variants.{Done, Refused}
 use Rattle.map_betas.specs.declared.error.Refusal.the-variants.{AsymmetricalFaces, PlanRoom}
 use Rattle.link_glue.specs.Examples.{Line, line, row, free, loops, loops-linked, opens, opens-linked, pair-linked}
-use Rattle.sew_ground.specs.Calls.{SewLeft, sewLeft}
+use Rattle.map_betas.specs.Answers.{Outcome, outcome}
+use Rattle.sew_ground.specs.Calls.{SewLoans}
 use Rattle.sew_pairs.specs.Calls.{threeUnsew}
 
 -- "1 and 2 3-linked"
@@ -31,24 +33,28 @@ zeros6 = zeros3 ++ zeros3
 abbrev pub sevens : List ℕ
 sevens = 7 ∷ 7 ∷ 7 ∷ 7 ∷ 7 ∷ 7 ∷ 7 ∷ 7 ∷ 7 ∷ 7 ∷ 7 ∷ 7 ∷ []
 
-unfoldable pub lines : List (Line SewLeft)
+-- an answer, then rows, marks, queue and plan
+abbrev leaving : Answer → List ℕ → List ℕ → List ℕ → List ℕ → Outcome SewLoans
+leaving a rows marks queue plan = outcome a (rows, marks, queue, plan)
+
+unfoldable pub lines : List (Line (Outcome SewLoans))
 lines =
     -- "13:1,2,1; 12:1,2,1; 11:0,2,0; 11:1,0,0"
     line (threeUnsew two-linked zeros3 zeros3 (sevens ++ row 7 7 7 7) 1)
-    (sewLeft (Done 2 4) (free ++ free ++ free) zeros3 zeros3 (row 13 1 2 1 ++ row 12 1 2 1 ++ row 11 0 2 0 ++ row 11 1 0 0))
+    (leaving (Done 2 4) (free ++ free ++ free) zeros3 zeros3 (row 13 1 2 1 ++ row 12 1 2 1 ++ row 11 0 2 0 ++ row 11 1 0 0))
     -- "11 (4), still linked"
-    ∷ line (threeUnsew two-linked zeros3 zeros3 sevens 1) (sewLeft (Refused (PlanRoom 4)) two-linked zeros3 zeros3 sevens)
+    ∷ line (threeUnsew two-linked zeros3 zeros3 sevens 1) (leaving (Refused (PlanRoom 4)) two-linked zeros3 zeros3 sevens)
     -- the least over the walked darts of each side: "13:2,3,2"
     ∷ line (threeUnsew part-linked zeros4 zeros4 (sevens ++ row 7 7 7 7) 2)
-    (sewLeft (Done 3 4) (free ++ row 3 0 0 0 ++ free ++ row 0 1 0 0) zeros4 zeros4 (row 13 2 3 2 ++ row 12 2 3 2 ++ row 11 0 3 0 ++ row 11 2 1 1))
+    (leaving (Done 3 4) (free ++ row 3 0 0 0 ++ free ++ row 0 1 0 0) zeros4 zeros4 (row 13 2 3 2 ++ row 12 2 3 2 ++ row 11 0 3 0 ++ row 11 2 1 1))
     -- an open face, from its last dart: the second leg's pair comes last, and marks and queue are longer than n
     ∷ line (threeUnsew opens-linked (1 ∷ zeros6) (5 ∷ zeros4 ++ sevens) (sevens ++ sevens) 2)
-    (sewLeft (Done 3 6) opens (0 ∷ zeros6) (zeros6 ++ (7 ∷ 7 ∷ 7 ∷ 7 ∷ 7 ∷ 7 ∷ 7 ∷ 7 ∷ 7 ∷ 7 ∷ 7 ∷ []))
+    (leaving (Done 3 6) opens (0 ∷ zeros6) (zeros6 ++ (7 ∷ 7 ∷ 7 ∷ 7 ∷ 7 ∷ 7 ∷ 7 ∷ 7 ∷ 7 ∷ 7 ∷ 7 ∷ []))
     (row 13 1 3 1 ++ row 12 2 3 2 ++ row 11 0 3 0 ++ row 12 1 4 1 ++ row 11 2 4 2 ++ row 11 1 5 1))
     -- a closed face against a longer one: the second leg is not walked
     ∷ line (threeUnsew loops-linked (zeros4 ++ zeros4) (zeros4 ++ zeros4) (sevens ++ sevens ++ row 7 7 7 7 ++ row 8 8 8 8) 1)
-    (sewLeft (Done 4 7) loops (zeros4 ++ zeros4) (zeros4 ++ zeros4)
+    (leaving (Done 4 7) loops (zeros4 ++ zeros4) (zeros4 ++ zeros4)
     (row 13 1 4 1 ++ row 12 1 4 1 ++ row 11 2 4 2 ++ row 12 2 7 2 ++ row 11 3 7 3 ++ row 12 3 6 3 ++ row 11 1 6 1 ++ row 8 8 8 8))
     -- walks read the rows as written so far
-    ∷ line (threeUnsew pair-linked zeros3 zeros3 sevens 1) (sewLeft (Refused (AsymmetricalFaces 1 2)) pair-linked zeros3 zeros3 sevens)
+    ∷ line (threeUnsew pair-linked zeros3 zeros3 sevens 1) (leaving (Refused (AsymmetricalFaces 1 2)) pair-linked zeros3 zeros3 sevens)
     ∷ []

@@ -15,13 +15,13 @@ use mathlib.Core.Bool.{Bool, true, cond, _||_}
 use mathlib.Core.List.{List, [], _++_}
 use lib.Dec.{eqb}
 use lib.ListN.{length}
-use Rattle.map_betas.specs.Betas.{beta}
-use Rattle.sew_plan.specs.declared.Class.the-variants.{Vertex, Edge}
+use Rattle.map_betas.specs.Betas.{beta, larger}
+use Rattle.cell_steps.specs.declared.cells.Class.the-variants.{Vertex, Edge}
 use Rattle.sew_plan.specs.declared.Kind.the-variants.{Split}
 use Rattle.sew_plan.specs.declared.Entry.{Entry}
 use Rattle.sew_plan.specs.Plan.{lesserOf}
 use Rattle.sew_ground.specs.Ids.{vertexId, edgeId}
-use Rattle.sew_ground.specs.Entries.{entriesIf, larger}
+use Rattle.sew_ground.specs.Entries.{entriesIf}
 use Rattle.sew_pairs.specs.declared.tally.Tally.{Tally}
 
 -- "M(beta 1, beta 2 of l)"

@@ -15,7 +15,7 @@ use lib.Dec.{eqb}
 use lib.ListN.{length}
 use Rattle.map_betas.specs.Betas.{beta}
 use Rattle.link_walk.specs.Three.{threeUnlinkOn}
-use Rattle.sew_plan.specs.declared.Class.the-variants.{Face}
+use Rattle.cell_steps.specs.declared.cells.Class.the-variants.{Face}
 use Rattle.sew_plan.specs.declared.Entry.{Entry}
 use Rattle.sew_plan.specs.Plan.{splitOf}
 use Rattle.sew_ground.specs.Sewn.{Work, work, dartOf}

@@ -1,7 +1,7 @@
 -- The plans of document 01's table as numbers, and a plan whose length is no multiple of an entry's. Assumes nothing.
 use mathlib.Core.Path.{_≡_, refl}
 use mathlib.Core.List.{[], _∷_}
-use Rattle.sew_plan.specs.declared.Class.the-variants.{Vertex, Edge, Face}
+use Rattle.cell_steps.specs.declared.cells.Class.the-variants.{Vertex, Edge, Face}
 use Rattle.sew_plan.specs.Plan.{mergeOf, splitOf, written, roomOf, planOf, putPlan}
 
 -- "2:1,1,3; 1:1,1,4; 1:2,2,3", the plan of a 2-sew

@@ -1,19 +1,13 @@
 -- Laws of plans, for callers that write entries one behind another. Assumes nothing.
 --
 --   entry-stored    the four stores of one entry give `written`
---   length-words    an entry takes `width` numbers
 --   length-planOf   a list of entries takes `width` numbers for each
 --   planOf-append   the numbers of two lists of entries, one behind another
 --   put-none        a plan into which nothing was written is itself
 --   write-next      writing the next entry behind a list of entries is writing the longer list
---   write-after     the same as a caller meets it: the plan before and the entry are known by equations
---   put-behind      a second list of entries written into the rest of the plan
 --   put-front       the written part of a plan
 --   put-rest        the rest of a plan is unchanged
 --   length-written  writing an entry for which there is room keeps the length
---   length-put      writing entries for which there is room keeps the length
---   room-fits       an entry numbered below the room fits
---   room-put        writing entries for which there is room keeps the room
 use Prim.Native.Nat.{ℕ, suc, _+_, _*_, _/_, _<_, _≤_}
 use mathlib.Core.Path.{_≡_, refl, sym, ap, _∙_}
 use mathlib.Core.List.{List, [], _∷_, _++_, append-assoc}
@@ -24,9 +18,6 @@ use Rattle.sew_plan.specs.declared.Entry.{Entry}
 use Rattle.sew_plan.specs.Plan.{width, codeOf, entryWords, written, roomOf, planOf, putPlan}
 
 -- ---- one entry
-
-pub length-words : (e : Entry) → length (entryWords e) ≡ width
-length-words e = refl
 
 four-stores : (plan : List ℕ) (p a b c d : ℕ) → p + 4 ≤ length plan
     → set (set (set (set plan p a) (p + 1) b) (p + 2) c) (p + 3) d ≡ take p plan ++ ((a ∷ b ∷ c ∷ d ∷ []) ++ drop (p + 4) plan)
@@ -76,12 +67,6 @@ unfolding putPlan
 behind es fs plan =
     sym (append-assoc (planOf es) (planOf fs) (drop (width * length es + width * length fs) plan)) ∙ rw (planOf-append es fs, places-append es fs)
 
-pub put-behind : (es fs : List Entry) (plan : List ℕ)
-    → take (width * length es) (putPlan es plan) ++ putPlan fs (drop (width * length es) (putPlan es plan)) ≡ putPlan (es ++ fs) plan
-unfolding putPlan
-put-behind es fs plan =
-    rw (put-front es plan, put-rest es plan, drop-drop (width * length fs) (width * length es) plan) (behind es fs plan)
-
 pub write-next : (es : List Entry) (plan : List ℕ) (k : ℕ) (e : Entry) → k ≡ length es
     → written (putPlan es plan) k e ≡ putPlan (es ++ (e ∷ [])) plan
 unfolding written planOf
@@ -89,23 +74,8 @@ write-next es plan k e h =
     rw (h, put-front es plan, ← drop-drop width (width * length es) (putPlan es plan), put-rest es plan, drop-drop width (width * length es) plan)
     (behind es (e ∷ []) plan)
 
-pub write-after : (es : List Entry) (plan₀ plan plan′ : List ℕ) (k : ℕ) (e e′ : Entry)
-    → plan ≡ putPlan es plan₀ → k ≡ length es → plan′ ≡ written plan k e → e ≡ e′
-    → plan′ ≡ putPlan (es ++ (e′ ∷ [])) plan₀
-write-after es plan₀ plan plan′ k e e′ h hk w he = w ∙ rw (h, he) (write-next es plan₀ k e′ hk)
-
 -- ---- lengths and room
 
 pub length-written : (plan : List ℕ) (k : ℕ) (e : Entry) → width * k + width ≤ length plan → length (written plan k e) ≡ length plan
 unfolding written
 length-written plan k e h = simp (length-append, length-take, length-drop) (omega arith)
-
-pub length-put : (es : List Entry) (plan : List ℕ) → width * length es ≤ length plan → length (putPlan es plan) ≡ length plan
-unfolding putPlan
-length-put es plan h = simp (length-append, length-drop, length-planOf) (omega arith)
-
-pub room-fits : (plan : List ℕ) (k : ℕ) → k < roomOf plan → width * k + width ≤ length plan
-room-fits plan k h = omega arith
-
-pub room-put : (es : List Entry) (plan : List ℕ) → length es ≤ roomOf plan → roomOf (putPlan es plan) ≡ roomOf plan
-room-put es plan h = ap (λ (n : ℕ). n / width) (length-put es plan (omega arith))

@@ -15,8 +15,8 @@ use mathlib.Core.Bool.{cond}
 use mathlib.Core.List.{List, [], _∷_, _++_}
 use lib.Dec.{leb}
 use lib.ListN.{length, take, drop}
-use Rattle.sew_plan.specs.declared.Class.{Class}
-use Rattle.sew_plan.specs.declared.Class.the-variants.{Vertex, Edge, Face}
+use Rattle.cell_steps.specs.declared.cells.Class.{Class}
+use Rattle.cell_steps.specs.declared.cells.Class.the-variants.{Vertex, Edge, Face, Volume}
 use Rattle.sew_plan.specs.declared.Kind.{Kind}
 use Rattle.sew_plan.specs.declared.Kind.the-variants.{Merge, Split}
 use Rattle.sew_plan.specs.declared.Entry.{Entry}
@@ -26,7 +26,7 @@ abbrev pub width : ℕ
 width = 4
 
 -- "Each plan entry carries its class and its kind as one code: 1 vertex merge, 2 edge merge, 11 vertex split, 12 edge split, 13 face split."
--- No sew merges faces; 3 is the number that the others leave for it.
+-- No sew merges faces or has an entry for volumes; 3, 4 and 14 are the numbers that the others leave for these.
 abbrev pub codeOf : Class → Kind → ℕ
 codeOf Vertex Merge = 1
 codeOf Edge Merge = 2
@@ -34,6 +34,8 @@ codeOf Face Merge = 3
 codeOf Vertex Split = 11
 codeOf Edge Split = 12
 codeOf Face Split = 13
+codeOf Volume Merge = 4
+codeOf Volume Split = 14
 
 -- "Each plan entry carries its class and its kind as one code .. A merge continues with out, left in, right in; a split with left out, right out, in."
 abbrev pub entryWords : Entry → List ℕ

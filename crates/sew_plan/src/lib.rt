@@ -1,18 +1,12 @@
 // The plan of a sew: entries that say which cells merge or split, written as whole groups of u32 numbers.
+use cell_steps::cells::Class;
 ghost use mathlib.Core.Path.{_≡_};
 ghost use Prim.Native.Nat.{_+_, _*_, _≤_};
 ghost use lib.ListN.{length};
 ghost use Rattle.sew_plan.specs.Plan.{width, codeOf, lesserOf, mergeOf, splitOf, written, roomOf};
 
 // The numbers that one entry takes: its code and three identifiers.
-pub const WIDTH: usize = 4;
-
-// The cells that an entry is about.
-pub enum Class {
-    Vertex,
-    Edge,
-    Face,
-}
+const WIDTH: usize = 4;
 
 // What becomes of them.
 pub enum Kind {
@@ -20,7 +14,8 @@ pub enum Kind {
     Split,
 }
 
-// An entry. A merge has a: out, b: left in, c: right in; a split has a: left out, b: right out, c: in.
+// An entry: the class of the cells that it is about, and what becomes of them. A merge has a: out, b: left in, c: right in; a split has a: left out, b: right
+// out, c: in.
 pub struct Entry {
     pub class: Class,
     pub kind: Kind,
@@ -30,7 +25,7 @@ pub struct Entry {
 }
 
 // The lesser of two identifiers.
-fn lesser(left: u32, right: u32) -> u32
+pub fn lesser(left: u32, right: u32) -> u32
     ensures { λ r. ⌜ r ≡ lesserOf left right ⌝ }
 {
     if left <= right { left } else { right }
@@ -82,6 +77,10 @@ pub fn code(e: Entry) -> u32
         Class::Face => match kind {
             Kind::Merge => 3,
             Kind::Split => 13,
+        },
+        Class::Volume => match kind {
+            Kind::Merge => 4,
+            Kind::Split => 14,
         },
     }
 }

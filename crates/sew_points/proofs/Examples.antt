@@ -75,7 +75,8 @@ abbrev below : List Float
 below = minusZero ∷ minusZero ∷ minusZero ∷ []
 
 -- (1,1,1) dot (-0,-0,-0) is -0.0, the sum of three products -0.0
-pub minus-zero-dot : dotOf (minusOf (point one one one) (point plusZero plusZero plusZero)) (minusOf (point minusZero minusZero minusZero) (point plusZero plusZero plusZero)) ≡ minusZero
+pub minus-zero-dot : dotOf (minusOf (point one one one) (point plusZero plusZero plusZero))
+    (minusOf (point minusZero minusZero minusZero) (point plusZero plusZero plusZero)) ≡ minusZero
 unfolding add sub mul
 minus-zero-dot = refl
 

@@ -1,13 +1,9 @@
 // The plan of a 3-unsew: the face split, then the splits of each pair in the order of the walk.
+use cell_steps::cells::Class;
 use map_betas::betas::beta_at;
-use map_betas::error::Answer;
-use map_betas::error::Refusal;
 use sew_ground::items::put_items;
 use sew_pairs::pairs::pair_items;
-use sew_plan::Class;
-use sew_tallies::tallies::first_tally;
 use sew_tallies::tallies::leg_over;
-use sew_tallies::tallies::whole_tally;
 ghost use mathlib.Core.Path.{_≡_};
 ghost use mathlib.Core.List.{_++_};
 ghost use Prim.Native.Nat.{_+_, _*_, _≤_, _<_};
@@ -15,11 +11,10 @@ ghost use lib.ListN.{length};
 ghost use Rattle.map_betas.specs.Betas.{darts};
 ghost use Rattle.map_betas.specs.Maps.{WellFormed};
 ghost use Rattle.sew_plan.specs.Plan.{width};
-ghost use Rattle.sew_ground.specs.Ids.{Scratch};
+ghost use Rattle.cell_steps.specs.Loans.{Clean};
 ghost use Rattle.sew_ground.specs.Entries.{writtenAll};
-ghost use Rattle.sew_ground.specs.Sewn.{settles, settled};
 ghost use Rattle.sew_pairs.specs.Pairs.{pairEntries, entriesFrom};
-ghost use Rattle.sew_pairs.specs.Three.{firstEntries, backEntries, splitsOf, threeEntries};
+ghost use Rattle.sew_pairs.specs.Three.{firstEntries, backEntries, splitsOf};
 
 // Writes the splits of one pair from number `at` of the plan on, and gives back the number behind them.
 fn write_pair(
@@ -31,8 +26,10 @@ fn write_pair(
     l: u32,
     r: u32,
 ) -> usize
-    requires { ⌜ WellFormed (now rows) × (l < darts (now rows)) × (r < darts (now rows)) × Scratch (darts (now rows)) (now marks) (now queue) × (width * (at + length (pairEntries (now rows) l r)) ≤ length (now plan)) ⌝ }
-    ensures { λ k. ⌜ (k ≡ at + length (pairEntries (now (rows .entry)) l r)) × (now (plan .exit) ≡ writtenAll (now (plan .entry)) at (pairEntries (now (rows .entry)) l r)) ⌝ }
+    requires { ⌜ WellFormed (now rows) × (l < darts (now rows)) × (r < darts (now rows)) × Clean (darts (now rows)) (now marks) (now queue)
+        × (width * (at + length (pairEntries (now rows) l r)) ≤ length (now plan)) ⌝ }
+    ensures { λ k. ⌜ (k ≡ at + length (pairEntries (now (rows .entry)) l r))
+        × (now (plan .exit) ≡ writtenAll (now (plan .entry)) at (pairEntries (now (rows .entry)) l r)) ⌝ }
     ensures { λ k. ⌜ (now (marks .exit) ≡ now (marks .entry)) × (now (queue .exit) ≡ now (queue .entry)) ⌝ }
 {
     let items = pair_items(rows, marks, queue, l, r);
@@ -52,8 +49,11 @@ fn write_leg(
     l0: u32,
     r0: u32,
 ) -> usize
-    requires { ⌜ WellFormed (now rows) × (i < 3) × (j < 3) × (l0 < darts (now rows)) × (r0 < darts (now rows)) × Scratch (darts (now rows)) (now marks) (now queue) × (width * (at0 + length (entriesFrom (length (now rows)) (now rows) i j stop l0 r0)) ≤ length (now plan)) ⌝ }
-    ensures { λ k. ⌜ (k ≡ at0 + length (entriesFrom (length (now (rows .entry))) (now (rows .entry)) i j stop l0 r0)) × (now (plan .exit) ≡ writtenAll (now (plan .entry)) at0 (entriesFrom (length (now (rows .entry))) (now (rows .entry)) i j stop l0 r0)) ⌝ }
+    requires { ⌜ WellFormed (now rows) × (i < 3) × (j < 3) × (l0 < darts (now rows)) × (r0 < darts (now rows))
+        × Clean (darts (now rows)) (now marks) (now queue) × (width * (at0 + length (entriesFrom (length (now rows)) (now rows) i j stop l0 r0)) ≤
+        length (now plan)) ⌝ }
+    ensures { λ k. ⌜ (k ≡ at0 + length (entriesFrom (length (now (rows .entry))) (now (rows .entry)) i j stop l0 r0))
+        × (now (plan .exit) ≡ writtenAll (now (plan .entry)) at0 (entriesFrom (length (now (rows .entry))) (now (rows .entry)) i j stop l0 r0)) ⌝ }
     ensures { λ k. ⌜ (now (marks .exit) ≡ now (marks .entry)) × (now (queue .exit) ≡ now (queue .entry)) ⌝ }
 {
     let mut l = l0;
@@ -83,8 +83,10 @@ fn write_back(
     ld: u32,
     rd: u32,
 ) -> usize
-    requires { ⌜ WellFormed (now rows) × (ld < darts (now rows)) × (rd < darts (now rows)) × Scratch (darts (now rows)) (now marks) (now queue) × (width * (at + length (backEntries (now rows) ld rd opened)) ≤ length (now plan)) ⌝ }
-    ensures { λ k. ⌜ (k ≡ at + length (backEntries (now (rows .entry)) ld rd opened)) × (now (plan .exit) ≡ writtenAll (now (plan .entry)) at (backEntries (now (rows .entry)) ld rd opened)) ⌝ }
+    requires { ⌜ WellFormed (now rows) × (ld < darts (now rows)) × (rd < darts (now rows)) × Clean (darts (now rows)) (now marks) (now queue)
+        × (width * (at + length (backEntries (now rows) ld rd opened)) ≤ length (now plan)) ⌝ }
+    ensures { λ k. ⌜ (k ≡ at + length (backEntries (now (rows .entry)) ld rd opened))
+        × (now (plan .exit) ≡ writtenAll (now (plan .entry)) at (backEntries (now (rows .entry)) ld rd opened)) ⌝ }
     ensures { λ k. ⌜ (now (marks .exit) ≡ now (marks .entry)) × (now (queue .exit) ≡ now (queue .entry)) ⌝ }
 {
     if !opened {
@@ -104,8 +106,10 @@ fn write_first(
     ld: u32,
     rd: u32,
 ) -> usize
-    requires { ⌜ WellFormed (now rows) × (ld < darts (now rows)) × (rd < darts (now rows)) × Scratch (darts (now rows)) (now marks) (now queue) × (width * (1 + length (pairEntries (now rows) ld rd) + length (firstEntries (now rows) ld rd)) ≤ length (now plan)) ⌝ }
-    ensures { λ k. ⌜ (k ≡ 1 + length (pairEntries (now (rows .entry)) ld rd ++ firstEntries (now (rows .entry)) ld rd)) × (now (plan .exit) ≡ writtenAll (now (plan .entry)) 1 (pairEntries (now (rows .entry)) ld rd ++ firstEntries (now (rows .entry)) ld rd)) ⌝ }
+    requires { ⌜ WellFormed (now rows) × (ld < darts (now rows)) × (rd < darts (now rows)) × Clean (darts (now rows)) (now marks) (now queue)
+        × (width * (1 + length (pairEntries (now rows) ld rd) + length (firstEntries (now rows) ld rd)) ≤ length (now plan)) ⌝ }
+    ensures { λ k. ⌜ (k ≡ 1 + length (pairEntries (now (rows .entry)) ld rd ++ firstEntries (now (rows .entry)) ld rd))
+        × (now (plan .exit) ≡ writtenAll (now (plan .entry)) 1 (pairEntries (now (rows .entry)) ld rd ++ firstEntries (now (rows .entry)) ld rd)) ⌝ }
     ensures { λ k. ⌜ (now (marks .exit) ≡ now (marks .entry)) × (now (queue .exit) ≡ now (queue .entry)) ⌝ }
 {
     let at = write_pair(rows, marks, queue, plan, 1, ld, rd);
@@ -115,7 +119,7 @@ fn write_first(
 }
 
 // Writes the face split and the splits of every pair, and gives back how many there are.
-fn write_splits(
+pub fn write_splits(
     rows: &[u32],
     marks: &mut [u8],
     queue: &mut [u32],
@@ -126,57 +130,13 @@ fn write_splits(
     ld: u32,
     rd: u32,
 ) -> usize
-    requires { ⌜ WellFormed (now rows) × (ld < darts (now rows)) × (rd < darts (now rows)) × Scratch (darts (now rows)) (now marks) (now queue) × (width * length (splitsOf (now rows) ld rd opened left right) ≤ length (now plan)) ⌝ }
-    ensures { λ k. ⌜ (k ≡ length (splitsOf (now (rows .entry)) ld rd opened left right)) × (now (plan .exit) ≡ writtenAll (now (plan .entry)) 0 (splitsOf (now (rows .entry)) ld rd opened left right)) ⌝ }
+    requires { ⌜ WellFormed (now rows) × (ld < darts (now rows)) × (rd < darts (now rows)) × Clean (darts (now rows)) (now marks) (now queue)
+        × (width * length (splitsOf (now rows) ld rd opened left right) ≤ length (now plan)) ⌝ }
+    ensures { λ k. ⌜ (k ≡ length (splitsOf (now (rows .entry)) ld rd opened left right))
+        × (now (plan .exit) ≡ writtenAll (now (plan .entry)) 0 (splitsOf (now (rows .entry)) ld rd opened left right)) ⌝ }
     ensures { λ k. ⌜ (now (marks .exit) ≡ now (marks .entry)) × (now (queue .exit) ≡ now (queue .entry)) ⌝ }
 {
     sew_plan::write_entry(plan, 0, sew_plan::split(Class::Face, left, right));
     let at = write_first(rows, marks, queue, plan, ld, rd);
     write_back(rows, marks, queue, plan, opened, at, ld, rd)
-}
-
-// How many entries there has to be room for: `most`, which is never too few, where there is room for it, and else as many as there are.
-fn wanted(
-    rows: &[u32],
-    marks: &mut [u8],
-    queue: &mut [u32],
-    room: usize,
-    most: usize,
-    ld: u32,
-    rd: u32,
-) -> usize
-    requires { ⌜ WellFormed (now rows) × (ld < darts (now rows)) × (rd < darts (now rows)) × Scratch (darts (now rows)) (now marks) (now queue) × (length (threeEntries (now rows) ld rd) ≤ most) ⌝ }
-    ensures { λ k. ⌜ (length (threeEntries (now (rows .entry)) ld rd) ≤ k) × (room < k → k ≡ length (threeEntries (now (rows .entry)) ld rd)) ⌝ }
-    ensures { λ k. ⌜ (now (marks .exit) ≡ now (marks .entry)) × (now (queue .exit) ≡ now (queue .entry)) ⌝ }
-{
-    if most <= room {
-        return most;
-    }
-    let t1 = first_tally(rows, marks, queue, true, ld, rd);
-    let t = whole_tally(rows, marks, queue, true, ld, rd, t1);
-    t.count
-}
-
-// Writes the plan of a 3-unsew from its start and answers rd with the count; or refuses, and leaves the plan as it was.
-pub fn settle_splits(
-    rows: &[u32],
-    marks: &mut [u8],
-    queue: &mut [u32],
-    plan: &mut [u32],
-    ld: u32,
-    rd: u32,
-) -> Answer
-    requires { ⌜ WellFormed (now rows) × (ld < darts (now rows)) × (rd < darts (now rows)) × Scratch (darts (now rows)) (now marks) (now queue) ⌝ }
-    ensures { λ a. ⌜ settles a (now (plan .exit)) ≡ settled (now (plan .entry)) rd (threeEntries (now (rows .entry)) ld rd) ⌝ }
-    ensures { λ a. ⌜ (now (marks .exit) ≡ now (marks .entry)) × (now (queue .exit) ≡ now (queue .entry)) ⌝ }
-{
-    let t1 = first_tally(rows, marks, queue, false, ld, rd);
-    let t = whole_tally(rows, marks, queue, false, ld, rd, t1);
-    let room = sew_plan::room(plan);
-    let k = wanted(rows, marks, queue, room, t.count, ld, rd);
-    if room < k {
-        return Answer::Refused(Refusal::PlanRoom(k));
-    }
-    let n = write_splits(rows, marks, queue, plan, t1.l == 0, t.left, t.right, ld, rd);
-    Answer::Done(rd, n)
 }

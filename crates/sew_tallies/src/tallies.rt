@@ -3,22 +3,16 @@ use map_betas::betas::beta_at;
 use sew_ground::items::count;
 use sew_pairs::pairs::pair_items;
 use sew_pairs::tally::Tally;
+use sew_plan::lesser;
 ghost use mathlib.Core.Path.{_≡_};
 ghost use Prim.Native.Nat.{_+_, _*_, _≤_, _<_};
 ghost use lib.ListN.{length};
 ghost use Rattle.map_betas.specs.Betas.{darts};
 ghost use Rattle.map_betas.specs.Maps.{WellFormed};
 ghost use Rattle.sew_plan.specs.Plan.{lesserOf};
-ghost use Rattle.sew_ground.specs.Ids.{Scratch};
+ghost use Rattle.cell_steps.specs.Loans.{Clean};
 ghost use Rattle.sew_pairs.specs.Pairs.{pairCount, legOver, tallied, tallyFrom};
 ghost use Rattle.sew_pairs.specs.Three.{firstTally, wholeTally};
-
-// The lesser of two darts.
-fn lesser_of(a: u32, b: u32) -> u32
-    ensures { λ r. ⌜ r ≡ lesserOf a b ⌝ }
-{
-    if a <= b { a } else { b }
-}
 
 // Whether a leg is over at l.
 pub fn leg_over(l: u32, stop: u32) -> bool
@@ -39,7 +33,7 @@ fn pair_count(
     l: u32,
     r: u32,
 ) -> usize
-    requires { ⌜ WellFormed (now rows) × (l < darts (now rows)) × (r < darts (now rows)) × Scratch (darts (now rows)) (now marks) (now queue) ⌝ }
+    requires { ⌜ WellFormed (now rows) × (l < darts (now rows)) × (r < darts (now rows)) × Clean (darts (now rows)) (now marks) (now queue) ⌝ }
     ensures { λ k. ⌜ (k ≡ pairCount exact (now (rows .entry)) l r) × (k ≤ 3) ⌝ }
     ensures { λ k. ⌜ (now (marks .exit) ≡ now (marks .entry)) × (now (queue .exit) ≡ now (queue .entry)) ⌝ }
 {
@@ -60,15 +54,16 @@ fn note(
     j: u32,
     t: Tally,
 ) -> Tally
-    requires { ⌜ WellFormed (now rows) × (i < 3) × (j < 3) × (t .l < darts (now rows)) × (t .r < darts (now rows)) × Scratch (darts (now rows)) (now marks) (now queue) × (t .count ≤ 100000000) ⌝ }
+    requires { ⌜ WellFormed (now rows) × (i < 3) × (j < 3) × (t .l < darts (now rows)) × (t .r < darts (now rows))
+        × Clean (darts (now rows)) (now marks) (now queue) × (t .count ≤ 100000000) ⌝ }
     ensures { λ u. ⌜ (u ≡ tallied exact (now (rows .entry)) i j t) × (u .count ≤ t .count + 3) ⌝ }
     ensures { λ u. ⌜ (now (marks .exit) ≡ now (marks .entry)) × (now (queue .exit) ≡ now (queue .entry)) ⌝ }
 {
     let l = t.l;
     let r = t.r;
     let k = pair_count(rows, marks, queue, exact, l, r);
-    let left = lesser_of(t.left, l);
-    let right = lesser_of(t.right, r);
+    let left = lesser(t.left, l);
+    let right = lesser(t.right, r);
     Tally {
         left,
         right,
@@ -89,8 +84,10 @@ fn tally_leg(
     stop: u32,
     t0: Tally,
 ) -> Tally
-    requires { ⌜ WellFormed (now rows) × (i < 3) × (j < 3) × (t0 .l < darts (now rows)) × (t0 .r < darts (now rows)) × Scratch (darts (now rows)) (now marks) (now queue) × (t0 .count ≤ 20000000) ⌝ }
-    ensures { λ u. ⌜ (u ≡ tallyFrom exact (length (now (rows .entry))) (now (rows .entry)) i j stop t0) × (u .count ≤ t0 .count + 3 * length (now (rows .entry))) ⌝ }
+    requires { ⌜ WellFormed (now rows) × (i < 3) × (j < 3) × (t0 .l < darts (now rows)) × (t0 .r < darts (now rows))
+        × Clean (darts (now rows)) (now marks) (now queue) × (t0 .count ≤ 20000000) ⌝ }
+    ensures { λ u. ⌜ (u ≡ tallyFrom exact (length (now (rows .entry))) (now (rows .entry)) i j stop t0)
+        × (u .count ≤ t0 .count + 3 * length (now (rows .entry))) ⌝ }
     ensures { λ u. ⌜ (now (marks .exit) ≡ now (marks .entry)) × (now (queue .exit) ≡ now (queue .entry)) ⌝ }
 {
     let mut t = t0;
@@ -114,7 +111,7 @@ pub fn first_tally(
     ld: u32,
     rd: u32,
 ) -> Tally
-    requires { ⌜ WellFormed (now rows) × (ld < darts (now rows)) × (rd < darts (now rows)) × Scratch (darts (now rows)) (now marks) (now queue) ⌝ }
+    requires { ⌜ WellFormed (now rows) × (ld < darts (now rows)) × (rd < darts (now rows)) × Clean (darts (now rows)) (now marks) (now queue) ⌝ }
     ensures { λ u. ⌜ (u ≡ firstTally exact (now (rows .entry)) ld rd) × (u .count ≤ 4 + 3 * length (now (rows .entry))) ⌝ }
     ensures { λ u. ⌜ (now (marks .exit) ≡ now (marks .entry)) × (now (queue .exit) ≡ now (queue .entry)) ⌝ }
 {
@@ -139,7 +136,8 @@ pub fn whole_tally(
     rd: u32,
     t: Tally,
 ) -> Tally
-    requires { ⌜ WellFormed (now rows) × (ld < darts (now rows)) × (rd < darts (now rows)) × Scratch (darts (now rows)) (now marks) (now queue) × (t .count ≤ 20000000) ⌝ }
+    requires { ⌜ WellFormed (now rows) × (ld < darts (now rows)) × (rd < darts (now rows)) × Clean (darts (now rows)) (now marks) (now queue)
+        × (t .count ≤ 20000000) ⌝ }
     ensures { λ u. ⌜ u ≡ wholeTally exact (now (rows .entry)) ld rd t ⌝ }
     ensures { λ u. ⌜ (now (marks .exit) ≡ now (marks .entry)) × (now (queue .exit) ≡ now (queue .entry)) ⌝ }
 {

@@ -4,12 +4,12 @@ use link_three::three::three_unlink_on;
 use map_betas::error::Answer;
 use map_betas::error::is_done;
 use sew_one_links::one_links::dart_of;
-use sew_splits::splits::settle_splits;
+use sew_settling::settling::settle_splits;
 ghost use mathlib.Core.Path.{_≡_};
 ghost use Rattle.map_betas.specs.Betas.{darts};
 ghost use Rattle.map_betas.specs.Maps.{WellFormed};
 ghost use Rattle.map_betas.specs.Guards.{Dart};
-ghost use Rattle.sew_ground.specs.Ids.{Scratch};
+ghost use Rattle.cell_steps.specs.Loans.{Clean};
 ghost use Rattle.sew_ground.specs.Sewn.{leaves, sewn};
 ghost use Rattle.sew_pairs.specs.Three.{threeUnsewOn};
 
@@ -21,7 +21,7 @@ pub fn three_unsew_on(
     plan: &mut [u32],
     ld: u32,
 ) -> Answer
-    requires { ⌜ WellFormed (now rows) × Dart (darts (now rows)) 1 ld × Scratch (darts (now rows)) (now marks) (now queue) ⌝ }
+    requires { ⌜ WellFormed (now rows) × Dart (darts (now rows)) 1 ld × Clean (darts (now rows)) (now marks) (now queue) ⌝ }
     ensures { λ a. ⌜ leaves a (now (rows .exit)) (now (plan .exit)) ≡ sewn (now (rows .entry)) (now (plan .entry)) (threeUnsewOn (now (rows .entry)) ld) ⌝ }
     ensures { λ a. ⌜ (now (marks .exit) ≡ now (marks .entry)) × (now (queue .exit) ≡ now (queue .entry)) ⌝ }
 {

@@ -17,14 +17,15 @@ ghost use lib.ListN.{length};
 ghost use Rattle.map_betas.specs.Betas.{darts};
 ghost use Rattle.map_betas.specs.Maps.{WellFormed};
 ghost use Rattle.map_betas.specs.Guards.{Dart};
-ghost use Rattle.sew_ground.specs.Ids.{Scratch};
+ghost use Rattle.cell_steps.specs.Loans.{Clean};
 ghost use Rattle.sew_ground.specs.Sewn.{leaves, sewn};
 ghost use Rattle.sew_ground.specs.Two.{linkedSides, twoSewOn, twoUnsewOn};
 
 // Links two darts whose sides are known, and settles their merges.
 fn link_sides(rows: &mut [u32], plan: &mut [u32], ld: u32, rd: u32, l: Side, r: Side) -> Answer
     requires { ⌜ WellFormed (now rows) × Dart (darts (now rows)) 1 ld × Dart (darts (now rows)) 1 rd ⌝ }
-    ensures { λ a. ⌜ leaves a (now (rows .exit)) (now (plan .exit)) ≡ sewn (now (rows .entry)) (now (plan .entry)) (linkedSides (now (rows .entry)) ld rd l r) ⌝ }
+    ensures { λ a. ⌜ leaves a (now (rows .exit)) (now (plan .exit))
+        ≡ sewn (now (rows .entry)) (now (plan .entry)) (linkedSides (now (rows .entry)) ld rd l r) ⌝ }
 {
     let a = link_core(rows, 2, ld, rd);
     if !is_done(a) {
@@ -49,9 +50,10 @@ pub fn two_sew_on(
     ld: u32,
     rd: u32,
 ) -> Answer
-    requires { ⌜ WellFormed (now rows) × Dart (darts (now rows)) 1 ld × Dart (darts (now rows)) 1 rd × Scratch (darts (now rows)) (now marks) (now queue) ⌝ }
+    requires { ⌜ WellFormed (now rows) × Dart (darts (now rows)) 1 ld × Dart (darts (now rows)) 1 rd × Clean (darts (now rows)) (now marks) (now queue) ⌝ }
     requires { ⌜ (darts (now rows) ≤ length (now vertices)) × (3 * darts (now rows) ≤ length (now coordinates)) ⌝ }
-    ensures { λ a. ⌜ leaves a (now (rows .exit)) (now (plan .exit)) ≡ sewn (now (rows .entry)) (now (plan .entry)) (twoSewOn (now (vertices .entry)) (now (coordinates .entry)) (now (rows .entry)) ld rd) ⌝ }
+    ensures { λ a. ⌜ leaves a (now (rows .exit)) (now (plan .exit))
+        ≡ sewn (now (rows .entry)) (now (plan .entry)) (twoSewOn (now (vertices .entry)) (now (coordinates .entry)) (now (rows .entry)) ld rd) ⌝ }
     ensures { λ a. ⌜ (now (marks .exit) ≡ now (marks .entry)) × (now (queue .exit) ≡ now (queue .entry)) ⌝ }
 {
     let l = side_at(rows, marks, queue, ld);
@@ -70,7 +72,7 @@ pub fn two_unsew_on(
     plan: &mut [u32],
     ld: u32,
 ) -> Answer
-    requires { ⌜ WellFormed (now rows) × Dart (darts (now rows)) 1 ld × Scratch (darts (now rows)) (now marks) (now queue) ⌝ }
+    requires { ⌜ WellFormed (now rows) × Dart (darts (now rows)) 1 ld × Clean (darts (now rows)) (now marks) (now queue) ⌝ }
     ensures { λ a. ⌜ leaves a (now (rows .exit)) (now (plan .exit)) ≡ sewn (now (rows .entry)) (now (plan .entry)) (twoUnsewOn (now (rows .entry)) ld) ⌝ }
     ensures { λ a. ⌜ (now (marks .exit) ≡ now (marks .entry)) × (now (queue .exit) ≡ now (queue .entry)) ⌝ }
 {

@@ -23,5 +23,8 @@ use Rattle.sew_pairs.specs.Examples.{lines as unsewLines}
 use Rattle.test_examples.specs.Table.{seen, faceLines, table}
 
 pub agree : calls table ≡ sayings table
-unfolding table seen faceLines linkLines unsewLines calls sayings threeLink threeUnlink threeUnsew idCall guardOf loanTest noDart mapTest firstBreach breachAt breaks badSize threeLinkOn threeUnlinkOn linkCore unlinkCore stepOf walk image mem add visit search orbit leastFrom least ident fresh insert lower turn leg forward backward faceWalk faceId splitOf planOf putPlan entriesIf settled sewn threeFar pairEntries legOver entriesFrom tallied tallyFrom startTally firstTally backTally wholeTally firstEntries backEntries splitsOf threeEntries threeUnsewOn
+unfolding table seen faceLines linkLines unsewLines calls sayings threeLink threeUnlink threeUnsew idCall guardOf loanTest noDart mapTest firstBreach breachAt
+    breaks badSize threeLinkOn threeUnlinkOn linkCore unlinkCore stepOf walk image mem add visit search orbit leastFrom least ident fresh insert lower turn leg
+    forward backward faceWalk faceId splitOf planOf putPlan entriesIf settled sewn threeFar pairEntries legOver entriesFrom tallied tallyFrom startTally
+    firstTally backTally wholeTally firstEntries backEntries splitsOf threeEntries threeUnsewOn
 agree = refl

@@ -8,11 +8,11 @@ use Prim.Native.Nat.{ℕ}
 use mathlib.Core.List.{List, [], _∷_, _++_}
 use Rattle.map_betas.specs.declared.error.Answer.{Answer}
 use Rattle.map_betas.specs.declared.error.Answer.the-variants.{Done}
-use Rattle.map_betas.specs.Answers.{Out}
+use Rattle.map_betas.specs.Answers.{Outcome}
 use Rattle.link_glue.specs.Examples.{Line, line, row, free, pair, lines as linkLines}
-use Rattle.cell_names.specs.declared.identifiers.Class.the-variants.{Face}
-use Rattle.cell_names.specs.Calls.{IdLeft, idCall}
-use Rattle.sew_ground.specs.Calls.{SewLeft}
+use Rattle.cell_steps.specs.declared.cells.Class.the-variants.{Face}
+use Rattle.cell_names.specs.Calls.{idCall}
+use Rattle.sew_ground.specs.Calls.{SewLoans}
 use Rattle.sew_pairs.specs.Examples.{zeros3, zeros4, lines as unsewLines}
 
 pub record Shown : Type 0 where
@@ -23,14 +23,14 @@ pub record Shown : Type 0 where
 abbrev pub shown : Answer → List ℕ → List ℕ → Shown
 shown a rows plan = record { answer = a; rows = rows; plan = plan }
 
-abbrev pub ofLink : Out → Shown
-ofLink o = shown (o .answer) (o .rows) []
+abbrev pub ofLink : Outcome (List ℕ) → Shown
+ofLink o = shown (o .answer) (o .loans) []
 
-abbrev pub ofFace : List ℕ → IdLeft → Shown
+abbrev pub ofFace : List ℕ → Outcome (List ℕ × List ℕ) → Shown
 ofFace rows l = shown (l .answer) rows []
 
-abbrev pub ofSew : SewLeft → Shown
-ofSew l = shown (l .answer) (l .rows) (l .plan)
+abbrev pub ofSew : Outcome SewLoans → Shown
+ofSew l = shown (l .answer) (l .loans .0) (l .loans .3)
 
 unfoldable pub seen : {A : Type 0} → (A → Shown) → List (Line A) → List (Line Shown)
 seen f [] = []

@@ -7,7 +7,6 @@ use inkcapper::list_calls;
 use inkcapper::orbit_calls;
 use inkcapper::read_calls;
 use inkcapper::sew_calls;
-use inkcapper::sew_calls::inkcapper_two_sew;
 
 // The answer of no call.
 const NONE: u32 = 255;
@@ -29,11 +28,8 @@ pub fn call(
     if operation < 10 {
         return link(operation, rows, a, b, values);
     }
-    if operation == 12 {
-        return two_sew(word(record, 8), rows, plan, a, b, values);
-    }
     if operation < 15 {
-        return sew(operation, rows, plan, a, b, values);
+        return sew(operation, word(record, 8), rows, plan, a, b, values);
     }
     if operation < 19 {
         return identifier(operation, rows, a, values);
@@ -70,29 +66,20 @@ fn link(operation: u32, rows: &mut [u32], a: u32, b: u32, values: &mut [u64; 3])
     }
 }
 
-// The sews and unsews without coordinates.
-fn sew(
-    operation: u32,
-    rows: &mut [u32],
-    plan: &mut [u32],
-    a: u32,
-    b: u32,
-    values: &mut [u64; 3],
-) -> u32 {
-    let mut marks = [165u8; 8];
-    let mut queue = [7u32; 8];
-    match operation {
-        10 => sew_calls::inkcapper_one_sew(rows, &mut marks, &mut queue, plan, a, b, values),
-        11 => sew_calls::inkcapper_one_unsew(rows, &mut marks, &mut queue, plan, a, values),
-        13 => sew_calls::inkcapper_two_unsew(rows, &mut marks, &mut queue, plan, a, values),
-        14 => sew_calls::inkcapper_three_unsew(rows, &mut marks, &mut queue, plan, a, values),
-        _ => NONE,
+// The vertices of a 2-sew: none (setting 0), or one at each dart.
+fn vertices(setting: u32) -> [u8; 8] {
+    if setting == 0 {
+        return [0u8; 8];
     }
+    [1u8; 8]
 }
 
 // The coordinates of document 01's two 2-sews: 2 is at (1,0,0); 3 is there too (setting 1), or 4 is at (0,1,0); all else is at (0,0,0).
 fn points(setting: u32) -> [f64; 24] {
     let mut coordinates = [0.0f64; 24];
+    if setting == 0 {
+        return coordinates;
+    }
     coordinates[6] = 1.0;
     if setting == 1 {
         coordinates[9] = 1.0;
@@ -102,8 +89,9 @@ fn points(setting: u32) -> [f64; 24] {
     coordinates
 }
 
-// The 2-sew: without vertices (setting 0), or with those of document 01's two lines.
-fn two_sew(
+// The sews and unsews; a 2-sew is without vertices (setting 0), or with those of document 01's two lines.
+fn sew(
+    operation: u32,
     setting: u32,
     rows: &mut [u32],
     plan: &mut [u32],
@@ -113,14 +101,18 @@ fn two_sew(
 ) -> u32 {
     let mut m = [165u8; 8];
     let mut q = [7u32; 8];
-    if setting == 0 {
-        let none = [0u8; 8];
-        let zeros = [0.0f64; 24];
-        return inkcapper_two_sew(rows, &mut m, &mut q, &none, &zeros, plan, a, b, values);
+    if operation == 12 {
+        let v = vertices(setting);
+        let at = points(setting);
+        return sew_calls::inkcapper_two_sew(rows, &mut m, &mut q, &v, &at, plan, a, b, values);
     }
-    let all = [1u8; 8];
-    let at = points(setting);
-    inkcapper_two_sew(rows, &mut m, &mut q, &all, &at, plan, a, b, values)
+    match operation {
+        10 => sew_calls::inkcapper_one_sew(rows, &mut m, &mut q, plan, a, b, values),
+        11 => sew_calls::inkcapper_one_unsew(rows, &mut m, &mut q, plan, a, values),
+        13 => sew_calls::inkcapper_two_unsew(rows, &mut m, &mut q, plan, a, values),
+        14 => sew_calls::inkcapper_three_unsew(rows, &mut m, &mut q, plan, a, values),
+        _ => NONE,
+    }
 }
 
 // Identifiers of cells.

@@ -102,6 +102,13 @@ fn same_written(record: &[u8], output: &[u32], plan: &[u32], bytes: &[u8]) -> bo
     same(plan, count, bytes) && same(output, 0, bytes)
 }
 
+// Makes a record's call on these loans: whether the number and the values are the record's.
+fn answered(record: &[u8], rows: &mut [u32], output: &mut [u32], plan: &mut [u32]) -> bool {
+    let mut values = [0u64; 3];
+    let number = call(record, rows, output, plan, &mut values);
+    number == word(record, 4) && same_values(&values, record)
+}
+
 // Makes a record's call on these loans and compares.
 fn replayed(record: &[u8], rows: &mut [u32], output: &mut [u32], plan: &mut [u32]) -> bool {
     let before = 12 + size(record, 10);
@@ -111,19 +118,10 @@ fn replayed(record: &[u8], rows: &mut [u32], output: &mut [u32], plan: &mut [u32
     if record.len() < written {
         return false;
     }
-    let mut values = [0u64; 3];
     fill(rows, &record[before..]);
-    let number = call(record, rows, output, plan, &mut values);
-    if number != word(record, 4) {
-        return false;
-    }
-    if !same_values(&values, record) {
-        return false;
-    }
-    if !same(rows, m, &record[after..]) {
-        return false;
-    }
-    same_written(record, output, plan, &record[written..])
+    answered(record, rows, output, plan)
+        && same(rows, m, &record[after..])
+        && same_written(record, output, plan, &record[written..])
 }
 
 // Lends a record's call what it needs, and compares.

@@ -1,37 +1,17 @@
 // Runs of the report on many inputs: standard input holds cases, each a length in four little-endian bytes and then as many bytes.
 use image_words::word_at;
 use libc::STDIN_FILENO;
-use libc::STDOUT_FILENO;
-use report_whole::report::report_text;
+use report_program::print_report;
+use test_print::put;
+use test_print::put_count;
 ghost use Prim.Native.Nat.{_+_, _≤_};
 ghost use lib.ListN.{length};
 
 // Writes the number of a case, and the report of its bytes.
 fn print_case(k: u64, bytes: &[u8]) {
-    let mut flags = [0u8; 1024];
-    let mut vertices = [0u8; 1024];
-    let mut coordinates = [0.0f64; 3072];
-    let mut rows = [0u32; 4096];
-    let mut marks = [0u8; 1024];
-    let mut queue = [0u32; 1024];
-    let mut output = [0u32; 1024];
-    let mut text = [0u8; 24576];
-    let end = report_text(
-        bytes,
-        false,
-        &mut flags,
-        &mut vertices,
-        &mut coordinates,
-        &mut rows,
-        &mut marks,
-        &mut queue,
-        &mut output,
-        &mut text,
-    );
-    io::write_all(STDOUT_FILENO, b"case ");
-    io::print_decimal(STDOUT_FILENO, k);
-    io::write_all(STDOUT_FILENO, b"\n");
-    io::write_all(STDOUT_FILENO, &text[..end]);
+    put_count(b"case ", k);
+    put(b"\n");
+    print_report(bytes, false);
 }
 
 // The place behind the case at `at`; the end, where fewer bytes stand there than its length says.

@@ -1,6 +1,7 @@
 // The kinds of cases: noise, of which each kind puts more right than the one before.
 //
-// 0 is plain noise; 1 to 7 have as many right words of the header; 8 has right flags too, and 9 right darts of the vertices; 10 has any images below n for rows,
+// 0 is plain noise; 1 to 7 have as many right words of the header; 8 has right flags too, and 9 right darts of the vertices; 10 has any images below n for
+// rows,
 // and from 11 on the rows are a map, so that only the coordinates are noise; in 12 some of these are infinite, and in 13 bytes are overwritten anywhere.
 use crate::noise::below;
 use crate::parts;

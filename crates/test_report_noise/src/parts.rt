@@ -4,6 +4,7 @@ use crate::noise::below;
 use crate::noise::byte;
 use crate::noise::next;
 ghost use Prim.Native.Nat.{_<_, _≤_};
+ghost use lib.ListN.{length};
 
 // Sets a byte.
 fn put_byte(bytes: &mut [u8], at: usize, x: u8) {
@@ -43,18 +44,23 @@ fn put_word_if(bytes: &mut [u8], wanted: bool, at: usize, x: usize)
     }
 }
 
+// Sets the first `count` of some words from a place on.
+fn put_words(bytes: &mut [u8], at: usize, words: &[usize], count: usize)
+    requires { ⌜ (at ≤ 1024) × (length (now words) ≤ 8) ⌝ }
+{
+    let mut i = 0;
+    while i < words.len() {
+        put_word_if(bytes, i < count, at + 4 * i, words[i]);
+        i += 1;
+    }
+}
+
 // Puts the first `count` words of the header right, all seven at most.
 pub(crate) fn put_header(bytes: &mut [u8], n: usize, v: usize, count: usize)
     requires { ⌜ n ≤ 6 ⌝ }
 {
-    let total = bytes.len();
-    put_word_if(bytes, 0 < count, 0, 1);
-    put_word_if(bytes, 1 < count, 4, total);
-    put_word_if(bytes, 2 < count, 8, n);
-    put_word_if(bytes, 3 < count, 12, 28);
-    put_word_if(bytes, 4 < count, 16, 28 + 16 * n);
-    put_word_if(bytes, 5 < count, 20, v);
-    put_word_if(bytes, 6 < count, 24, 28 + 17 * n);
+    let words = [1, bytes.len(), n, 28, 28 + 16 * n, v, 28 + 17 * n];
+    put_words(bytes, 0, &words, count);
 }
 
 // Puts the flags right: 0 for dart 0, 0 or 1 for the others.
@@ -164,11 +170,8 @@ fn behind(n: usize, d: usize) -> usize
 fn put_row(bytes: &mut [u8], n: usize, d: usize)
     requires { ⌜ (d < n) × (n ≤ 6) ⌝ }
 {
-    let at = 28 + 16 * d;
-    put_word(bytes, at, before(n, d));
-    put_word(bytes, at + 4, behind(n, d));
-    put_word(bytes, at + 8, 0);
-    put_word(bytes, at + 12, 0);
+    let row = [before(n, d), behind(n, d), 0, 0];
+    put_words(bytes, 28 + 16 * d, &row, 4);
 }
 
 // Puts the rows of the ring.

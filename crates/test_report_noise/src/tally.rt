@@ -1,19 +1,12 @@
 // What came of cases: by refusal, and a sum over every byte that the report would print.
-use report_whole::report::report_text;
-ghost use mathlib.Core.Path.{_≡_};
+use crate::noise::long;
+use report_program::report_bytes;
 ghost use Prim.Native.Nat.{_<_};
 
 // What came of a case, and the sum behind it.
 pub struct Told {
     pub outcome: usize,
     pub sum: u32,
-}
-
-// A word as a double word.
-fn long(x: u32) -> u64
-    ensures { λ r. ⌜ (r ≡ x) × (r < 4294967296) ⌝ }
-{
-    x as u64
 }
 
 // The sum with one byte more.
@@ -74,25 +67,7 @@ fn judged(text: &[u8], sum: u32) -> Told {
 
 // Reports a case.
 pub(crate) fn reported(bytes: &[u8], sum: u32) -> Told {
-    let mut flags = [0u8; 1024];
-    let mut vertices = [0u8; 1024];
-    let mut coordinates = [0.0f64; 3072];
-    let mut rows = [0u32; 4096];
-    let mut marks = [0u8; 1024];
-    let mut queue = [0u32; 1024];
-    let mut output = [0u32; 1024];
     let mut text = [0u8; 24576];
-    let end = report_text(
-        bytes,
-        false,
-        &mut flags,
-        &mut vertices,
-        &mut coordinates,
-        &mut rows,
-        &mut marks,
-        &mut queue,
-        &mut output,
-        &mut text,
-    );
+    let end = report_bytes(bytes, false, &mut text);
     judged(&text[..end], sum)
 }

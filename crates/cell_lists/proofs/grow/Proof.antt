@@ -3,12 +3,11 @@ use native.Mathlib.Omega.{arith}
 use mathlib.Core.Path.{refl, sym, ap, _∙_}
 use mathlib.Core.List.{List·Memᴰ·head, List·Memᴰ·tail}
 use native.Mathlib.Nat.{le-trans}
-use Rattle.cell_steps.specs.declared.policy.Written.{Written}
-use Rattle.cell_steps.specs.Visits.{stepsBy}
-use Rattle.cell_steps.proofs.ScratchLaws.{fit-scratch, scratch-same}
-use Rattle.cell_steps.proofs.TurnLaws.{fit-same}
-use Rattle.cell_joins.proofs.PushLaws.{grown-there}
-use Rattle.cell_joins.proofs.GrowLaws.{grew-same, entered, grew-flood, grew-edge, grew-forward, grew-again}
+use Rattle.cell_steps.specs.declared.policy.OrbitPolicy.{OrbitPolicy}
+use Rattle.cell_steps.specs.Steps.{stepsBy}
+use Rattle.cell_steps.proofs.ScratchLaws.{scratch-same}
+use Rattle.cell_lists.proofs.PushLaws.{grown-there}
+use Rattle.cell_lists.proofs.GrowLaws.{grew-same, entered, grew-flood, grew-edge, grew-forward, grew-again}
 use borrow.Author.Needs.{needs}
 use Rattle.cell_lists.proofs.grow.Statement.{statement}
 use Rattle.cell_lists.proofs.grow.Tie as tie
@@ -17,7 +16,7 @@ meet-requires : tie.Need-meet-requires
 meet-requires c κs =
     let back6 = c .before .before .before .before .before .before in
     let s = back6 in
-    (s .pre .1, omega (arith, s .pre .0 .marks-n, s .pre .3), omega (arith, s .pre .0 .marks-n, s .pre .0 .out-n), s .pre .6)
+    (s .pre .1, omega (arith, s .pre .0 .marks-n, s .pre .3), omega (arith, s .pre .0 .marks-n, s .pre .0 .queue-n), s .pre .6)
 
 same-length : tie.Need-same-length
 same-length c = search needs
@@ -41,7 +40,7 @@ alternate-requires c κs =
     let back16 = at-meet .before .before .before .before .before .before .before in
     let s = back16 in
     let p = at-meet .meet in (
-      scratch-same _ (s .args .marks .now) (s .args .queue .now) _ _ (fit-scratch (s .pre .0)) (p .kept .0) (p .kept .1 .0),
+      scratch-same _ (s .args .marks .now) (s .args .queue .now) _ _ (s .pre .0) (p .kept .0) (p .kept .1 .0),
       p .ensures .queue,
       entered (s .args .rows .now) (s .args .steps .now) _ (s .pre .2) _ _ (s .pre .1 .room) _ _ _ (p .ensures) (at-if1 .if1 .left),
       List·Memᴰ·head refl,
@@ -57,7 +56,7 @@ alternate-requires-2 c κs =
     let s = back23 in
     let p = at-meet .meet in
     let a = at-alternate .alternate in (
-      scratch-same _ (s .args .marks .now) (s .args .queue .now) _ _ (fit-scratch (s .pre .0)) (a .kept .1 .0 ∙ p .kept .0) (a .kept .1 .1 .0 ∙ p .kept .1 .0),
+      scratch-same _ (s .args .marks .now) (s .args .queue .now) _ _ (s .pre .0) (a .kept .1 .0 ∙ p .kept .0) (a .kept .1 .1 .0 ∙ p .kept .1 .0),
       a .ensures .0 .queue,
       a .ensures .1 .old _ (entered (s .args .rows .now) (s .args .steps .now) _ (s .pre .2) _ _ (s .pre .1 .room) _ _ _ (p .ensures) (at-if1 .if1 .left)),
       List·Memᴰ·tail (List·Memᴰ·head refl),
@@ -72,8 +71,12 @@ flood-forward-requires c κs =
     let at-meet = c .before .before .before .before .before .before .before .before .before in
     let back16 = at-meet .before .before .before .before .before .before .before in
     let s = back16 in
-    let p = at-meet .meet in
-    (scratch-same _ (s .args .marks .now) (s .args .queue .now) _ _ (fit-scratch (s .pre .0)) (p .kept .0) (p .kept .1 .0), p .ensures .queue, p .ensures .more, grown-there _ _ _ _ _ _ _ (p .ensures) (s .pre .6))
+    let p = at-meet .meet in (
+      scratch-same _ (s .args .marks .now) (s .args .queue .now) _ _ (s .pre .0) (p .kept .0) (p .kept .1 .0),
+      p .ensures .queue,
+      p .ensures .more,
+      grown-there _ _ _ _ _ _ _ (p .ensures) (s .pre .6),
+    )
 
 flood-requires : tie.Need-flood-requires
 flood-requires c κs =
@@ -82,8 +85,14 @@ flood-requires c κs =
     let back24 = at-meet .before .before .before .before .before .before .before in
     let s = back24 in
     let p = at-meet .meet in
-    let t = at-flood-forward .flood-forward in
-    (fit-same _ _ (s .args .marks .now) (s .args .queue .now) _ _ (s .pre .0) (t .kept .1 .0 ∙ p .kept .0) (t .kept .1 .1 .0 ∙ p .kept .1 .0), t .ensures .0 .queue, le-trans (p .ensures .more) (t .ensures .0 .more), s .pre .4)
+    let t = at-flood-forward .flood-forward in (
+      scratch-same _ (s .args .marks .now) (s .args .queue .now) _ _ (s .pre .0) (t .kept .1 .0 ∙ p .kept .0) (t .kept .1 .1 .0 ∙ p .kept .1 .0),
+      t
+          .ensures .0 .queue,
+      le-trans (p .ensures .more) (t .ensures .0 .more),
+      s .pre .7,
+      s .pre .4,
+    )
 
 same-length-3 : tie.Need-same-length-3
 same-length-3 c = search needs
@@ -100,16 +109,23 @@ returns-2 c =
     let at-meet = at-if1 .before .before .before .before .before in
     let back29 = at-meet .before .before .before .before .before .before .before in
     let s = back29 in
-    let e = ap (λ (w : Written). stepsBy w (s .args .steps .now)) (sym (at-enum-told2 .enum-told2 .given .1)) ∙ s .pre .4 in
-    grew-again _ _ _ (s .pre .2) _ _ (s .pre .1 .room) _ _ _ (at-meet .meet .ensures) (at-if1 .if1 .left) (s .pre .5) (s .pre .0 .formed .below) (s .pre .3) _ (s .pre .0 .marks-n) (s .pre .1) (s .pre .0 .formed) e _ _ _ (at-flood-forward .flood-forward .ensures .0) _ _ _ (at-flood .flood .ensures)
+    let e = ap (λ (w : OrbitPolicy). stepsBy w (s .args .steps .now)) (sym (at-enum-told2 .enum-told2 .given .1)) ∙ s .pre .4 in
+    grew-again _ _ _ (s .pre .2) _ _ (s .pre .1 .room) _ _ _ (at-meet .meet .ensures) (at-if1 .if1 .left) (s .pre .5) (s .pre .0 .formed .below)
+    (s .pre .3) _ (s .pre .0 .marks-n) (s .pre .1) (s .pre .0 .formed) e _ _ _ (at-flood-forward .flood-forward .ensures .0) _ _ _ (at-flood .flood .ensures)
 
 flood-requires-2 : tie.Need-flood-requires-2
 flood-requires-2 c κs =
     let at-meet = c .before .before .before .before .before .before .before .before in
     let back15 = at-meet .before .before .before .before .before .before .before in
     let s = back15 in
-    let p = at-meet .meet in
-    (fit-same _ _ (s .args .marks .now) (s .args .queue .now) _ _ (s .pre .0) (p .kept .0) (p .kept .1 .0), p .ensures .queue, p .ensures .more, s .pre .4)
+    let p = at-meet .meet in (
+      scratch-same _ (s .args .marks .now) (s .args .queue .now) _ _ (s .pre .0) (p .kept .0) (p .kept .1 .0),
+      p .ensures .queue,
+      p .ensures .more,
+      s
+          .pre .7,
+      s .pre .4,
+    )
 
 same-length-5 : tie.Need-same-length-5
 same-length-5 c = search needs
@@ -128,8 +144,9 @@ returns-3 c =
     let s = back28 in
     let a = at-alternate .alternate in
     let b = at-alternate2 .alternate2 in
-    let e = ap (λ (w : Written). stepsBy w (s .args .steps .now)) (sym (at-enum-told .enum-told .given .1)) ∙ s .pre .4 in
-    grew-edge _ _ _ (s .pre .2) _ _ (s .pre .1 .room) _ _ _ (at-meet .meet .ensures) (at-if1 .if1 .left) (s .pre .5) e _ _ _ (a .ensures .0) (a .ensures .1) _ _ _ (b .ensures .0) (b .ensures .1)
+    let e = ap (λ (w : OrbitPolicy). stepsBy w (s .args .steps .now)) (sym (at-enum-told .enum-told .given .1)) ∙ s .pre .4 in
+    grew-edge _ _ _ (s .pre .2) _ _ (s .pre .1 .room) _ _ _ (at-meet .meet .ensures) (at-if1 .if1 .left) (s .pre .5) e _ _ _ (a .ensures .0)
+    (a .ensures .1) _ _ _ (b .ensures .0) (b .ensures .1)
 
 same-length-7 : tie.Need-same-length-7
 same-length-7 c = search needs
@@ -146,8 +163,9 @@ returns-4 c =
     let back22 = at-meet .before .before .before .before .before .before .before in
     let s = back22 in
     let t = at-flood-forward .flood-forward in
-    let e = ap (λ (w : Written). stepsBy w (s .args .steps .now)) (sym (at-enum-told2 .enum-told2 .given .1)) ∙ s .pre .4 in
-    grew-forward _ _ _ (s .pre .2) _ _ (s .pre .1 .room) _ _ _ (at-meet .meet .ensures) (at-if1 .if1 .left) (s .pre .5) (s .pre .0 .formed .below) (s .pre .3) _ (s .pre .0 .marks-n) (s .pre .1) (s .pre .0 .formed) e _ _ _ (t .ensures .0) (t .ensures .1 (c .if2 .left))
+    let e = ap (λ (w : OrbitPolicy). stepsBy w (s .args .steps .now)) (sym (at-enum-told2 .enum-told2 .given .1)) ∙ s .pre .4 in
+    grew-forward _ _ _ (s .pre .2) _ _ (s .pre .1 .room) _ _ _ (at-meet .meet .ensures) (at-if1 .if1 .left) (s .pre .5) (s .pre .0 .formed .below)
+    (s .pre .3) _ (s .pre .0 .marks-n) (s .pre .1) (s .pre .0 .formed) e _ _ _ (t .ensures .0) (t .ensures .1 (c .if2 .left))
 
 same-length-9 : tie.Need-same-length-9
 same-length-9 c = search needs
@@ -162,7 +180,8 @@ returns-5 c =
     let at-meet = at-if1 .before .before .before .before .before in
     let back20 = at-meet .before .before .before .before .before .before .before in
     let s = back20 in
-    grew-flood _ _ _ (s .pre .2) _ _ (s .pre .1 .room) _ _ _ (at-meet .meet .ensures) (at-if1 .if1 .left) (s .pre .5) (s .pre .0 .formed .below) (s .pre .3) _ (s .pre .0 .marks-n) (s .pre .1) _ _ _ (at-flood2 .flood2 .ensures)
+    grew-flood _ _ _ (s .pre .2) _ _ (s .pre .1 .room) _ _ _ (at-meet .meet .ensures) (at-if1 .if1 .left) (s .pre .5) (s .pre .0 .formed .below)
+    (s .pre .3) _ (s .pre .0 .marks-n) (s .pre .1) _ _ _ (at-flood2 .flood2 .ensures)
 
 pub grow-spec : {M : Type 1} → statement M
 grow-spec =

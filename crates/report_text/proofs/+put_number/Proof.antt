@@ -47,7 +47,8 @@ put-number-put-byte-requires : (t : ℕ) → put-number-lts.Need-put-byte-requir
   put-number-below t,
   put-number.Post,
 ) (put-number-at t) put-number.Post
-put-number-put-byte-requires t c κs = omega (arith, c .before .before .before .pre .1, ap length (decimal-one (c .before .before .before .args .x) (c .before .if1 .taken)))
+put-number-put-byte-requires t c κs = omega
+    (arith, c .before .before .before .pre .1, ap length (decimal-one (c .before .before .before .args .x) (c .before .if1 .taken)))
 
 put-number-same-length : (t : ℕ) → put-number-lts.Need-same-length (
   put-byte-reads.Asked,
@@ -63,7 +64,10 @@ put-number-returns : (t : ℕ) → put-number-lts.Need-returns (
   put-number-below t,
   put-number.Post,
 ) (put-number-at t) put-number.Post
-put-number-returns t c = c .before .before .put-byte .ensures ∙ ap (lay (c .before .before .before .before .before .before .args .out .now) (c .before .before .before .before .before .before .args .at)) (sym (decimal-one _ (c .before .before .before .before .if1 .taken)))
+put-number-returns t c =
+    let at-if1 = c .before .before .before .before in
+    let entry = at-if1 .before .before in
+    c .before .before .put-byte .ensures ∙ ap (lay (entry .args .out .now) (entry .args .at)) (sym (decimal-one _ (at-if1 .if1 .taken)))
 
 put-number-put-number-requires : (t : ℕ) → put-number-lts.Need-put-number-requires (
   put-byte-reads.Asked,
@@ -71,7 +75,10 @@ put-number-put-number-requires : (t : ℕ) → put-number-lts.Need-put-number-re
   put-number-below t,
   put-number.Post,
 ) (put-number-at t) put-number.Post
-put-number-put-number-requires t c κs = (omega (arith, c .before .before .before .pre .0, c .before .if1 .left), decimal-above _ _ _ (c .before .if1 .left) (omega arith) (c .before .before .before .pre .1))
+put-number-put-number-requires t c κs = (
+  omega (arith, c .before .before .before .pre .0, c .before .if1 .left),
+  decimal-above _ _ _ (c .before .if1 .left) (omega arith) (c .before .before .before .pre .1),
+)
 
 put-number-cast-put-byte-2 : (t : ℕ) → put-number-lts.Need-cast-put-byte-2 (
   put-byte-reads.Asked,
@@ -96,8 +103,16 @@ put-number-put-byte-requires-2 : (t : ℕ) → put-number-lts.Need-put-byte-requ
   put-number.Post,
 ) (put-number-at t) put-number.Post
 put-number-put-byte-requires-2 t c κs =
-    let small : c .before .before .before .before .before .before .before .args .x < 18446744073709551616 = omega arith in
-    omega (arith, lay-next _ _ _ _ _ (c .before .before .before .put-number .ensures), c .before .before .before .put-number .kept .0, decimal-room (c .before .before .before .before .before .before .before .args .x) (c .before .before .before .before .before .before .before .args .at) (length (c .before .before .before .before .before .before .before .args .out .now)) (c .before .before .before .before .before .if1 .left) small (c .before .before .before .before .before .before .before .pre .1))
+    let at-put-number = c .before .before .before in
+    let at-if1 = at-put-number .before .before in
+    let entry = at-if1 .before .before in
+    let small : entry .args .x < 18446744073709551616 = omega arith in
+    omega (
+      arith,
+      lay-next _ _ _ _ _ (at-put-number .put-number .ensures),
+      at-put-number .put-number .kept .0,
+      decimal-room (entry .args .x) (entry .args .at) (length (entry .args .out .now)) (at-if1 .if1 .left) small (entry .pre .1),
+    )
 
 put-number-same-length-2 : (t : ℕ) → put-number-lts.Need-same-length-2 (
   put-byte-reads.Asked,
@@ -114,9 +129,13 @@ put-number-returns-2 : (t : ℕ) → put-number-lts.Need-returns-2 (
   put-number.Post,
 ) (put-number-at t) put-number.Post
 put-number-returns-2 t c =
-    let small : c .before .before .before .before .before .before .before .before .before .before .args .x < 18446744073709551616 = omega arith in
-    lay-then _ _ _ _ _ _ _ _ (decimal-above _ _ _ (c .before .before .before .before .before .before .before .before .if1 .left) small (c .before .before .before .before .before .before .before .before .before .before .pre .1)) (c .before .before .before .before .before .before .put-number .ensures) (c .before .before .put-byte2 .ensures)
-    ∙ ap (lay (c .before .before .before .before .before .before .before .before .before .before .args .out .now) (c .before .before .before .before .before .before .before .before .before .before .args .at)) (sym (decimal-more _ (c .before .before .before .before .before .before .before .before .if1 .left) small))
+    let at-put-number = c .before .before .before .before .before .before in
+    let at-if1 = at-put-number .before .before in
+    let entry = at-if1 .before .before in
+    let small : entry .args .x < 18446744073709551616 = omega arith in
+    lay-then _ _ _ _ _ _ _ _ (decimal-above _ _ _ (at-if1 .if1 .left) small (entry .pre .1)) (at-put-number .put-number .ensures)
+    (c .before .before .put-byte2 .ensures)
+    ∙ ap (lay (entry .args .out .now) (entry .args .at)) (sym (decimal-more _ (at-if1 .if1 .left) small))
 
 pub +put-number-spec : {M : Type 1} → statement M
 +put-number-spec = close μ-put-number λ t. put-number-lts.spec (

@@ -20,7 +20,13 @@ loop-holds c = (omega arith, refl, items-none _ _ (c .before .before .args .list
 put-byte-requires : tie.Need-put-byte-requires Inv-loop μ-loop
 put-byte-requires c κs =
     let entry = c .before .before .before .before .before in
-    omega (arith, entry .pre .1, c .before .before .loop .inv .1, lay-next _ _ _ _ _ (c .before .before .loop .inv .2), items-room (entry .args .list .now) (entry .args .count) (c .before .before .loop .i) (omega arith))
+    omega (
+      arith,
+      entry .pre .1,
+      c .before .before .loop .inv .1,
+      lay-next _ _ _ _ _ (c .before .before .loop .inv .2),
+      items-room (entry .args .list .now) (entry .args .count) (c .before .before .loop .i) (omega arith),
+    )
 
 mul-put-number : tie.Need-mul-put-number Inv-loop μ-loop
 mul-put-number c = omega arith
@@ -38,7 +44,15 @@ put-number-requires c κs =
     let at-put-byte = c .before .before .before .before in
     let at-loop = at-put-byte .before .before .before in
     let entry = at-loop .before .before .before in
-    omega (arith, entry .pre .1, at-loop .loop .inv .1, lay-next _ _ _ _ _ (at-loop .loop .inv .2), lay-next _ _ _ _ _ (at-put-byte .put-byte .ensures), at-put-byte .put-byte .kept .0, items-room (entry .args .list .now) (entry .args .count) (at-loop .loop .i) (omega arith))
+    omega (
+      arith,
+      entry .pre .1,
+      at-loop .loop .inv .1,
+      lay-next _ _ _ _ _ (at-loop .loop .inv .2),
+      lay-next _ _ _ _ _ (at-put-byte .put-byte .ensures),
+      at-put-byte .put-byte .kept .0,
+      items-room (entry .args .list .now) (entry .args .count) (at-loop .loop .i) (omega arith),
+    )
 
 add-i : tie.Need-add-i Inv-loop μ-loop
 add-i c = omega arith
@@ -53,7 +67,8 @@ loop-again c =
     let entry = at-loop .before .before .before in (
       omega arith,
       c .before .before .put-number .kept .0 ∙ at-put-byte .put-byte .kept .0 ∙ at-loop .loop .inv .1,
-      items-more _ _ _ (entry .args .count) _ _ _ _ _ _ _ (omega arith) (entry .pre .1) (at-loop .loop .inv .2) (at-put-byte .put-byte .ensures) (c .before .before .put-number .ensures),
+      items-more _ _ _ (entry .args .count) _ _ _ _ _ _ _ (omega arith) (entry .pre .1) (at-loop .loop .inv .2) (at-put-byte .put-byte .ensures)
+          (c .before .before .put-number .ensures),
     )
 
 same-length : tie.Need-same-length Inv-loop μ-loop

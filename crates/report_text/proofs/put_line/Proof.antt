@@ -13,7 +13,13 @@ put-bytes-requires c κs =
 put-byte-requires : tie.Need-put-byte-requires
 put-byte-requires c κs =
     let entry = c .before .before .before .before .before .before .before .before in
-    omega (arith, entry .pre .1, line-length (entry .args .name .now) (entry .args .list .now) (entry .args .count), lay-next _ _ _ _ _ (c .before .before .before .put-bytes .ensures), c .before .before .before .put-bytes .kept .0)
+    omega (
+      arith,
+      entry .pre .1,
+      line-length (entry .args .name .now) (entry .args .list .now) (entry .args .count),
+      lay-next _ _ _ _ _ (c .before .before .before .put-bytes .ensures),
+      c .before .before .before .put-bytes .kept .0,
+    )
 
 put-number-requires : tie.Need-put-number-requires
 put-number-requires c κs =
@@ -98,7 +104,8 @@ same-length c =
     let at-put-number = at-put-byte2 .before .before .before .before in
     let at-put-byte = at-put-number .before .before .before .before in
     let at-put-bytes = at-put-byte .before .before .before .before in
-    c .before .before .put-byte3 .kept .0 ∙ at-put-items .put-items .kept .0 ∙ at-put-byte2 .put-byte2 .kept .0 ∙ at-put-number .put-number .kept .0 ∙ at-put-byte .put-byte .kept .0 ∙ at-put-bytes .put-bytes .kept .0
+    c .before .before .put-byte3 .kept .0 ∙ at-put-items .put-items .kept .0 ∙ at-put-byte2 .put-byte2 .kept .0 ∙ at-put-number .put-number .kept .0
+    ∙ at-put-byte .put-byte .kept .0 ∙ at-put-bytes .put-bytes .kept .0
 
 returns : tie.Need-returns
 returns c =
@@ -108,7 +115,8 @@ returns c =
     let at-put-byte = at-put-number .before .before .before .before in
     let at-put-bytes = at-put-byte .before .before .before .before in
     let entry = at-put-bytes .before .before .before .before .before in
-    line-is (entry .args .name .now) (entry .args .list .now) (entry .args .count) _ _ _ _ _ _ _ _ _ _ _ _ _ _ (entry .pre .1) (at-put-bytes .put-bytes .ensures) (at-put-byte .put-byte .ensures) (at-put-number .put-number .ensures) (at-put-byte2 .put-byte2 .ensures)
+    line-is (entry .args .name .now) (entry .args .list .now) (entry .args .count) _ _ _ _ _ _ _ _ _ _ _ _ _ _ (entry .pre .1)
+    (at-put-bytes .put-bytes .ensures) (at-put-byte .put-byte .ensures) (at-put-number .put-number .ensures) (at-put-byte2 .put-byte2 .ensures)
     (at-put-items .put-items .ensures) (c .before .before .put-byte3 .ensures)
 
 pub put-line-spec : {M : Type 1} → statement M

@@ -1,4 +1,4 @@
--- `plan::code` meets its contract: each of its six arms is a case of the definition. Assumes nothing.
+-- `code` meets its contract: each of its eight arms is a case of the definition. Assumes nothing.
 use borrow.Author.Needs.{needs}
 use Rattle.sew_plan.proofs.code.Statement.{statement}
 use Rattle.sew_plan.proofs.code.Tie as tie
@@ -30,6 +30,15 @@ enum-told-8 c = search needs
 enum-told-9 : tie.Need-enum-told-9
 enum-told-9 c = search needs
 
+enum-told-10 : tie.Need-enum-told-10
+enum-told-10 c = search needs
+
+enum-told-11 : tie.Need-enum-told-11
+enum-told-11 c = search needs
+
+enum-told-12 : tie.Need-enum-told-12
+enum-told-12 c = search needs
+
 returns : tie.Need-returns
 returns c = search needs
 
@@ -48,6 +57,12 @@ returns-5 c = search needs
 returns-6 : tie.Need-returns-6
 returns-6 c = search needs
 
+returns-7 : tie.Need-returns-7
+returns-7 c = search needs
+
+returns-8 : tie.Need-returns-8
+returns-8 c = search needs
+
 pub code-spec : {M : Type 1} → statement M
 code-spec =
     tie.close
@@ -61,9 +76,14 @@ code-spec =
     enum-told-7
     enum-told-8
     enum-told-9
+    enum-told-10
+    enum-told-11
+    enum-told-12
     returns
     returns-2
     returns-3
     returns-4
     returns-5
-    returns-6)
+    returns-6
+    returns-7
+    returns-8)

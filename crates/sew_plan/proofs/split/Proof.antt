@@ -1,7 +1,7 @@
 -- `plan::split` meets its contract: in is what `lesser` gives. Assumes nothing.
 use Prim.Native.Nat.{ℕ}
 use mathlib.Core.Path.{_≡_}
-use Rattle.sew_plan.specs.declared.Class.{Class}
+use Rattle.cell_steps.specs.declared.cells.Class.{Class}
 use Rattle.sew_plan.specs.declared.Kind.the-variants.{Split}
 use Rattle.sew_plan.specs.declared.Entry.{Entry}
 use Rattle.sew_plan.specs.Plan.{lesserOf, splitOf}

@@ -34,7 +34,8 @@ slots-refuse-requires c κs = search needs
 returns : tie.Need-returns
 returns c =
     let at-slot-at = c .before .before .before .before in
-    c .slots-refuse .ensures ∙ joined _ _ _ _ _ _ _ _ _ _ (at-slot-at .slot-at .ensures) (c .before .before .before .slot-at2 .ensures) (c .before .before .slot-at3 .ensures) (c .before .slot-at4 .ensures)
+    c .slots-refuse .ensures ∙ joined _ _ _ _ _ _ _ _ _ _ (at-slot-at .slot-at .ensures) (c .before .before .before .slot-at2 .ensures)
+    (c .before .before .slot-at3 .ensures) (c .before .slot-at4 .ensures)
 
 pub bad-geometry-spec : {M : Type 1} → statement M
 bad-geometry-spec =

@@ -5,20 +5,25 @@ use borrow.Author.Tests.{not-true, not-false}
 use Rattle.map_betas.specs.declared.loans.Loans.{Loans}
 use Rattle.map_betas.specs.Answers.{isDone}
 use Rattle.map_betas.specs.Guards.{guardOf}
+use Rattle.map_betas.proofs.AnswerLaws.{behind-refused, behind-done}
 use Rattle.cell_names.specs.Calls.{idGuard, idCall}
-use Rattle.cell_names.proofs.LeftLaws.{id-refused, id-passed, id-ready}
+use Rattle.cell_names.proofs.CallLaws.{id-ready}
 use borrow.Author.Needs.{needs}
 use Rattle.cell_calls.proofs.basic_ops.id_call.Statement.{statement}
 use Rattle.cell_calls.proofs.basic_ops.id_call.Tie as tie
 
--- the guard's answer is the definition's
-guarded : (c : tie.After-guard) → c .guard .result ≡ idGuard (c .before .before .before .before .before .args .rows .now) (c .before .before .before .before .before .args .marks .now) (c .before .before .before .before .before .args .queue .now) (c .before .before .before .before .before .args .d)
+guarded : (c : tie.After-guard) → c .guard .result ≡ idGuard (c .before .before .before .before .before .args .rows .now)
+    (c .before .before .before .before .before .args .marks .now) (c .before .before .before .before .before .args .queue .now)
+    (c .before .before .before .before .before .args .d)
 guarded c =
-    let entry = c .before .before .before .before .before in
-    c .guard .ensures ∙ ap (λ (l : Loans). guardOf (entry .args .rows .now) l 0 (entry .args .d) (entry .args .d)) (c .before .scratch .ensures)
+    let at-scratch = c .before in
+    let entry = at-scratch .before .before .before .before in
+    c .guard .ensures ∙ ap (λ (l : Loans). guardOf (entry .args .rows .now) l 0 (entry .args .d) (entry .args .d)) (at-scratch .scratch .ensures)
 
 passed : (c : tie.Else1) → isDone (c .before .before .guard .result) ≡ true
-passed c = sym (c .before .is-done .ensures) ∙ not-false _ (c .if1 .left)
+passed c =
+    let at-is-done = c .before in
+    sym (at-is-done .is-done .ensures) ∙ not-false _ (c .if1 .left)
 
 scratch-requires : tie.Need-scratch-requires
 scratch-requires c κs = search needs
@@ -31,14 +36,17 @@ is-done-requires c κs = search needs
 
 returns : tie.Need-returns
 unfolding idCall
-returns c = id-refused (c .before .before .guard .result) _ (guarded (c .before .before)) _ _ _ (sym (c .before .is-done .ensures) ∙ not-true _ (c .if1 .taken))
+returns c =
+    let at-is-done = c .before in
+    let at-guard = at-is-done .before in
+    behind-refused (at-guard .guard .result) _ (guarded at-guard) _ _ (sym (at-is-done .is-done .ensures) ∙ not-true _ (c .if1 .taken))
 
 id-done-requires : tie.Need-id-done-requires
 id-done-requires c κs =
-    let back4 = c .before .before .before .before in
-    let back9 = back4 .before .before .before .before .before in
-    let s = back9 in
-    let r = id-ready (s .args .rows .now) (s .args .marks .now) (s .args .queue .now) (s .args .d) _ (guarded back4) (passed (c .before .before)) in
+    let at-if1 = c .before .before in
+    let at-guard = at-if1 .before .before in
+    let entry = at-guard .before .before .before .before .before in
+    let r = id-ready (entry .args .rows .now) (entry .args .marks .now) (entry .args .queue .now) (entry .args .d) _ (guarded at-guard) (passed at-if1) in
     (r .formed, r .lent .marks, r .lent .queue, r .left .below)
 
 same-length : tie.Need-same-length
@@ -51,9 +59,9 @@ returns-2 : tie.Need-returns-2
 unfolding idCall
 returns-2 c =
     let at-id-done = c .before .before .before .before in
-    let back7 = at-id-done .before .before .before in
-    let at-guard = back7 .before .before in
-    at-id-done .id-done .ensures ∙ id-passed (at-guard .guard .result) _ (guarded at-guard) _ _ _ (passed back7)
+    let at-if1 = at-id-done .before .before .before in
+    let at-guard = at-if1 .before .before in
+    at-id-done .id-done .ensures ∙ behind-done (at-guard .guard .result) _ (guarded at-guard) _ _ (passed at-if1)
 
 pub id-call-spec : {M : Type 1} → statement M
 id-call-spec =

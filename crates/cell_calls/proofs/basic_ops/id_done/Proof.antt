@@ -1,10 +1,10 @@
 -- `basic_ops::id_done` meets its contract: wiped scratch, and the core on the first n places of it. Assumes nothing.
-use mathlib.Core.Path.{sym}
+use mathlib.Core.Path.{sym, ap}
 use Prim.Native.Nat.{ℕ}
-use native.Mathlib.Nat.{le-of-eq}
+use Rattle.map_betas.specs.declared.error.Answer.the-variants.{Done}
 use Rattle.map_betas.specs.Betas.{darts}
-use Rattle.cell_steps.proofs.ScratchLaws.{wiped-n, wiped-zero, wiped-lent}
-use Rattle.cell_names.proofs.LeftLaws.{id-left}
+use Rattle.map_betas.proofs.AnswerLaws.{outcome-is}
+use Rattle.cell_steps.proofs.ScratchLaws.{wiped-n, wiped-clean, wiped-lent}
 use borrow.Author.Needs.{needs}
 use Rattle.cell_calls.proofs.basic_ops.id_done.Statement.{statement}
 use Rattle.cell_calls.proofs.basic_ops.id_done.Tie as tie
@@ -37,20 +37,8 @@ identifier-requires : tie.Need-identifier-requires
 identifier-requires c κs =
     let at-wipe-queue = c .before .before .before .before in
     let at-wipe-marks = at-wipe-queue .before .before .before .before in
-    let back13 = at-wipe-marks .before .before .before .before .before in
-    let s = back13 in
-    let n : ℕ = darts (s .args .rows .now) in
-    let w = at-wipe-marks .wipe-marks in
-    let x = at-wipe-queue .wipe-queue in (
-      record {
-        formed = s .pre .0;
-        marks-n = wiped-n n (s .args .marks .now) (w .last .0) (w .ensures);
-        queue-n = le-of-eq (sym (wiped-n n (s .args .queue .now) (x .last .0) (x .ensures)));
-      },
-      s .pre .3,
-      wiped-zero n (s .args .marks .now) (w .last .0) (w .ensures),
-      wiped-zero n (s .args .queue .now) (x .last .0) (x .ensures),
-    )
+    let entry = at-wipe-marks .before .before .before .before .before in
+    (entry .pre .0, entry .pre .3, wiped-clean _ _ _ _ _ (at-wipe-marks .wipe-marks .ensures) (at-wipe-queue .wipe-queue .ensures))
 
 same-length : tie.Need-same-length
 same-length c = search needs
@@ -63,14 +51,12 @@ returns c =
     let at-identifier = c .before .before .before .before in
     let at-wipe-queue = at-identifier .before .before .before .before .before in
     let at-wipe-marks = at-wipe-queue .before .before .before .before in
-    let back18 = at-wipe-marks .before .before .before .before .before in
-    let s = back18 in
-    let n : ℕ = darts (s .args .rows .now) in
-    let w = at-wipe-marks .wipe-marks in
-    let x = at-wipe-queue .wipe-queue in
+    let entry = at-wipe-marks .before .before .before .before .before in
+    let n : ℕ = darts (entry .args .rows .now) in
     let i = at-identifier .identifier .ensures in
-    id-left (s .args .rows .now) (s .args .marks .now) (s .args .queue .now) (s .args .class) (s .args .d) _ _ _ (i .2)
-    (wiped-lent n (s .args .marks .now) (w .last .0) (w .ensures) _ (i .0)) (wiped-lent n (s .args .queue .now) (x .last .0) (x .ensures) _ (i .1))
+    let m = wiped-lent n (entry .args .marks .now) (at-wipe-marks .wipe-marks .last .0) (at-wipe-marks .wipe-marks .ensures) _ (i .0) in
+    let q = wiped-lent n (entry .args .queue .now) (at-wipe-queue .wipe-queue .last .0) (at-wipe-queue .wipe-queue .ensures) _ (i .1) in
+    outcome-is (ap (λ (id : ℕ). Done id 0) (i .2)) (λ t. (m t, q t))
 
 pub id-done-spec : {M : Type 1} → statement M
 id-done-spec =

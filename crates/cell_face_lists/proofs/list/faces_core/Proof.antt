@@ -9,7 +9,8 @@ use Rattle.cell_face_lists.proofs.list.faces_core.Statement.{statement}
 use Rattle.cell_face_lists.proofs.list.faces_core.Tie as tie
 
 abbrev Inv-loop : tie.InvT-loop
-Inv-loop rows marks₀ queue₀ output₀ flags n known₀ count₀ d₀ marks queue output known count d = Keeping rows flags marks₀ queue₀ output₀ marks queue output known count d
+Inv-loop rows marks₀ queue₀ output₀ flags n known₀ count₀ d₀ marks queue output known count d =
+    Keeping rows flags marks₀ queue₀ output₀ marks queue output known count d
 
 abbrev μ-loop : tie.MeasureT-loop
 μ-loop rows marks₀ queue₀ output₀ flags n known₀ count₀ d₀ marks queue output known count d = darts rows - d
@@ -25,8 +26,8 @@ cast-x c =
     let entry = c .before .before .before .before .before .before .before in
     omega (arith, c .loop-test .taken, entry .pre .0 .marks-n, entry .pre .0 .formed .sized .few)
 
-look-requires : tie.Need-look-requires Inv-loop μ-loop
-look-requires c κs =
+test-dart-requires : tie.Need-test-dart-requires Inv-loop μ-loop
+test-dart-requires c κs =
     let back9 = c .before .before .before .before .before .before .before .before .before in
     let l = c .before .before .before .loop in
     let s = back9 in (
@@ -37,14 +38,14 @@ look-requires c κs =
       l .inv .faced,
     )
 
-shared-slice-read-keep : tie.Need-shared-slice-read-keep Inv-loop μ-loop
-shared-slice-read-keep c =
+shared-slice-read-put-own : tie.Need-shared-slice-read-put-own Inv-loop μ-loop
+shared-slice-read-put-own c =
     let at-loop-test = c .before .before .before .before .before .before .before .before .before in
     let entry = at-loop-test .before .before .before .before .before .before .before in
     omega (arith, at-loop-test .loop-test .taken, entry .pre .0 .marks-n, entry .pre .2)
 
-keep-requires : tie.Need-keep-requires Inv-loop μ-loop
-keep-requires c κs =
+put-own-requires : tie.Need-put-own-requires Inv-loop μ-loop
+put-own-requires c κs =
     let at-loop = c .before .before .before .before .before .before .before .before .before .before in
     let entry = at-loop .before .before .before .before .before .before in
     let l = at-loop .loop in
@@ -64,15 +65,16 @@ loop-less c =
 
 loop-again : tie.Need-loop-again Inv-loop μ-loop
 loop-again c =
-    let at-look = c .before .before .before .before .before .before .before .before .before in
-    let at-loop-test = at-look .before .before .before in
+    let at-test-dart = c .before .before .before .before .before .before .before .before .before in
+    let at-loop-test = at-test-dart .before .before .before in
     let at-loop = at-loop-test .before in
     let back19 = at-loop .before .before .before .before .before .before in
     let l = at-loop .loop in
     let s = back19 in
-    let f = at-look .look in
-    let k = c .before .before .keep in
-    keeping-turn (s .args .rows .now) (s .pre .0 .formed) (s .args .flags .now) (s .args .marks .now) (s .args .queue .now) (s .args .output .now) _ _ _ _ _ _ (l .inv) _ _ _ _ _ _
+    let f = at-test-dart .test-dart in
+    let k = c .before .before .put-own in
+    keeping-turn (s .args .rows .now) (s .pre .0 .formed) (s .args .flags .now) (s .args .marks .now) (s .args .queue .now) (s .args .output .now) _ _ _ _ _ _
+    (l .inv) _ _ _ _ _ _
     (omega (arith, at-loop-test .loop-test .taken, s .pre .0 .marks-n)) (f .kept .1 .0) (f .kept .1 .1 .0) (k .kept .0) (f .ensures) (k .ensures)
 
 wipe-marks-requires : tie.Need-wipe-marks-requires Inv-loop μ-loop
@@ -108,9 +110,12 @@ returns c =
     let back15 = at-loop .before .before .before .before .before .before in
     let l = at-loop .loop in
     let s = back15 in (
-      keeping-marks (s .args .rows .now) (s .pre .0 .formed) (s .args .flags .now) (s .args .marks .now) (s .args .queue .now) (s .args .output .now) _ _ _ _ _ _ (l .inv) _ _ refl (s .pre .3) (at-wipe-marks .wipe-marks .ensures),
-      keeping-queue (s .args .rows .now) (s .pre .0 .formed) (s .args .flags .now) (s .args .marks .now) (s .args .queue .now) (s .args .output .now) _ _ _ _ _ _ (l .inv) _ _ (s .pre .0 .marks-n) (c .before .before .wipe-queue .ensures),
-      keeping-ends (s .args .rows .now) (s .pre .0 .formed) (s .args .flags .now) (s .args .marks .now) (s .args .queue .now) (s .args .output .now) _ _ _ _ _ _ (l .inv)
+      keeping-marks (s .args .rows .now) (s .pre .0 .formed) (s .args .flags .now) (s .args .marks .now) (s .args .queue .now) (s .args .output .now)
+          _ _ _ _ _ _ (l .inv) _ _ refl (s .pre .3) (at-wipe-marks .wipe-marks .ensures),
+      keeping-queue (s .args .rows .now) (s .pre .0 .formed) (s .args .flags .now) (s .args .marks .now) (s .args .queue .now) (s .args .output .now)
+          _ _ _ _ _ _ (l .inv) _ _ (s .pre .0 .marks-n) (c .before .before .wipe-queue .ensures),
+      keeping-ends (s .args .rows .now) (s .pre .0 .formed) (s .args .flags .now) (s .args .marks .now) (s .args .queue .now) (s .args .output .now)
+          _ _ _ _ _ _ (l .inv)
           (omega (arith, at-loop-test .loop-test .left, s .pre .0 .marks-n)) (omega (arith, l .inv .few, l .inv .upto, l .inv .out-n, s .pre .1)),
     )
 
@@ -122,9 +127,9 @@ faces-core-spec =
     μ-loop
     loop-holds
     cast-x
-    look-requires
-    shared-slice-read-keep
-    keep-requires
+    test-dart-requires
+    shared-slice-read-put-own
+    put-own-requires
     add-d
     loop-less
     loop-again

@@ -40,8 +40,10 @@ returns c =
     let k = at-clear .clear in
     let g = w .ensures .grown in
     let f : w .result .k ≤ length (s .args .queue .now) = omega (arith, g .queue .room, w .kept .1 .1 .0) in (
-      cleared-all (s .args .marks .now) (w .last .1 .0) (w .last .1 .1 .0) (k .last .0) (w .result .k) (s .pre .2) (w .kept .1 .0) (k .kept .0) (g .queue) (k .ensures),
-      c .before .before .wipe-queue .ensures ∙ ap (λ (t : List ℕ). replicate (w .result .k) 0 ++ t) (g .back) ∙ zero-split (s .args .queue .now) (w .result .k) (s .pre .3) f,
+      cleared-all (s .args .marks .now) (w .last .1 .0) (w .last .1 .1 .0) (k .last .0) (w .result .k) (s .pre .2) (w .kept .1 .0) (k .kept .0) (g .queue)
+          (k .ensures),
+      c .before .before .wipe-queue .ensures ∙ ap (λ (t : List ℕ). replicate (w .result .k) 0 ++ t) (g .back)
+          ∙ zero-split (s .args .queue .now) (w .result .k) (s .pre .3) f,
       w .ensures .low-is,
     )
 

@@ -49,7 +49,8 @@ returns-2 c =
     let at-push = at-if1 .before .before .before .before .before in
     let back17 = at-push .before .before .before .before .before in
     let s = back17 in
-    inserted-right (s .args .queue .now) (s .args .k) (s .args .l) (s .args .r) (s .pre .0 .room) _ _ _ (at-push .push .ensures) (at-if1 .if1 .left) _ _ _ (at-push2 .push2 .ensures)
+    inserted-right (s .args .queue .now) (s .args .k) (s .args .l) (s .args .r) (s .pre .0 .room) _ _ _ (at-push .push .ensures) (at-if1 .if1 .left) _ _ _
+    (at-push2 .push2 .ensures)
 
 pub insert-spec : {M : Type 1} → statement M
 insert-spec =

@@ -86,7 +86,8 @@ loop-again c =
     let l = at-loop .loop in
     let s = back16 in
     let g = at-insert .insert in
-    walking-turn _ _ _ _ _ _ _ _ _ _ _ _ _ _ _ (l .inv) _ _ _ (g .ensures) (at-if1 .if1 .left) (g .kept .0) (g .kept .1 .0) (s .pre .0 .formed .below) (s .pre .0 .marks-n) _ _ _ _
+    walking-turn _ _ _ _ _ _ _ _ _ _ _ _ _ _ _ (l .inv) _ _ _ (g .ensures) (at-if1 .if1 .left) (g .kept .0) (g .kept .1 .0) (s .pre .0 .formed .below)
+    (s .pre .0 .marks-n) _ _ _ _
     (c .before .before .before .beta-at .ensures) (c .before .before .beta-at2 .ensures) (c .before .lower .ensures) (c .lower2 .ensures)
 
 pub leg-spec : {M : Type 1} → statement M

@@ -40,7 +40,8 @@ returns c =
     let at-beta-at = at-lower .before in
     let back14 = at-beta-at .before .before .before .before in
     let s = back14 in
-    walked-one (s .args .rows .now) _ (s .args .d) _ _ (at-beta-at .beta-at .ensures) (at-lower .lower .ensures) _ _ _ _ _ _ _ _ (at-leg .leg .ensures) (c .before .if1 .taken) (c .if2 .taken)
+    walked-one (s .args .rows .now) _ (s .args .d) _ _ (at-beta-at .beta-at .ensures) (at-lower .lower .ensures) _ _ _ _ _ _ _ _ (at-leg .leg .ensures)
+    (c .before .if1 .taken) (c .if2 .taken)
 
 beta-at-requires-2 : tie.Need-beta-at-requires-2
 beta-at-requires-2 c κs =

@@ -4,7 +4,8 @@ use Prim.Native.Nat.{zero-le}
 use native.Mathlib.Omega.{arith}
 use lib.ListN.{length-set}
 use Rattle.cell_steps.proofs.QueueLaws.{cleared-all}
-use Rattle.cell_steps.proofs.TurnLaws.{fit-same, seeded, flooded}
+use Rattle.cell_steps.proofs.TurnLaws.{seeded, flooded}
+use Rattle.cell_steps.proofs.ScratchLaws.{scratch-same}
 use borrow.Author.Needs.{needs}
 use Rattle.cell_orbits.proofs.core.orbit_core.Statement.{statement}
 use Rattle.cell_orbits.proofs.core.orbit_core.Tie as tie
@@ -15,20 +16,17 @@ slice-write-marks c = search needs
 slice-write-output : tie.Need-slice-write-output
 slice-write-output c = search needs
 
-written-out-requires : tie.Need-written-out-requires
-written-out-requires c κs = search needs
-
 flood-requires : tie.Need-flood-requires
 flood-requires c κs =
-    let back7 = c .before .before .before .before .before .before .before in
-    let s = back7 in
+    let s = c .before .before .before .before .before .before in
     let m = s .args .marks .now in
     let o = s .args .output .now in
     let d = s .args .d in (
-      fit-same _ _ m o _ _ (s .pre .0) (length-set m d 1) (length-set o 0 d),
-      seeded d m o (omega (arith, s .pre .0 .marks-n, s .pre .1)) (omega (arith, s .pre .0 .marks-n, s .pre .0 .out-n)) (s .pre .2),
+      scratch-same _ m o _ _ (s .pre .0) (length-set m d 1) (length-set o 0 d),
+      seeded d m o (omega (arith, s .pre .0 .marks-n, s .pre .1)) (omega (arith, s .pre .0 .marks-n, s .pre .0 .queue-n)) (s .pre .2),
       zero-le,
-      c .before .before .written-out .ensures,
+      s .pre .3,
+      s .pre .4,
     )
 
 clear-requires : tie.Need-clear-requires
@@ -37,29 +35,27 @@ clear-requires c κs = search needs
 same-length : tie.Need-same-length
 same-length c =
     let at-flood = c .before .before .before .before .before .before .before .before .before in
-    let back17 = at-flood .before .before .before .before .before .before .before .before in
-    let s = back17 in
+    let s = at-flood .before .before .before .before .before .before .before in
     c .before .before .clear .kept .0 ∙ at-flood .flood .kept .1 .1 .1 .0 ∙ length-set (s .args .marks .now) (s .args .d) 1
 
 same-length-2 : tie.Need-same-length-2
 same-length-2 c =
     let at-flood = c .before .before .before .before .before .before .before .before .before in
-    let back17 = at-flood .before .before .before .before .before .before .before .before in
-    let s = back17 in
+    let s = at-flood .before .before .before .before .before .before .before in
     at-flood .flood .kept .1 .1 .1 .1 .0 ∙ length-set (s .args .output .now) 0 (s .args .d)
 
 returns : tie.Need-returns
 returns c =
     let at-flood = c .before .before .before .before .before .before .before .before .before in
-    let back17 = at-flood .before .before .before .before .before .before .before .before in
-    let s = back17 in
+    let s = at-flood .before .before .before .before .before .before .before in
     let m = s .args .marks .now in
     let o = s .args .output .now in
     let d = s .args .d in
     let f = at-flood .flood in
     let k = c .before .before .clear in (
-      cleared-all m (f .last .1 .1 .1 .0) (f .last .1 .1 .1 .1 .0) (k .last .0) (f .result) (s .pre .2) (f .kept .1 .1 .1 .0 ∙ length-set m d 1) (k .kept .0) (f .ensures .queue) (k .ensures),
-      flooded _ _ d o _ _ _ (omega (arith, s .pre .0 .out-n, s .pre .0 .formed .sized .some)) (f .ensures),
+      cleared-all m (f .last .1 .1 .1 .0) (f .last .1 .1 .1 .1 .0) (k .last .0) (f .result) (s .pre .2) (f .kept .1 .1 .1 .0 ∙ length-set m d 1)
+          (k .kept .0) (f .ensures .queue) (k .ensures),
+      flooded _ _ d o _ _ _ (omega (arith, s .pre .0 .queue-n, s .pre .0 .formed .sized .some)) (f .ensures),
     )
 
 pub orbit-core-spec : {M : Type 1} → statement M
@@ -68,7 +64,6 @@ orbit-core-spec =
     (tie.spec
     slice-write-marks
     slice-write-output
-    written-out-requires
     flood-requires
     clear-requires
     same-length

@@ -24,7 +24,8 @@ cast-t8 : tie.Need-cast-t8 Inv-loop μ-loop
 cast-t8 c = omega (arith, c .before .shared-slice-known .given (c .before .before .before .loop .j))
 
 returns : tie.Need-returns Inv-loop μ-loop
-returns c = custom-hit _ (c .before .before .before .loop .j) _ (c .before .before .loop-test .taken) refl (c .if1 .taken) ∙ c .before .before .before .loop .inv .1
+returns c = custom-hit _ (c .before .before .before .loop .j) _ (c .before .before .loop-test .taken) refl (c .if1 .taken)
+    ∙ c .before .before .before .loop .inv .1
 
 add-j : tie.Need-add-j Inv-loop μ-loop
 add-j c = omega arith
@@ -33,7 +34,11 @@ loop-less : tie.Need-loop-less Inv-loop μ-loop
 loop-less c = omega arith
 
 loop-again : tie.Need-loop-again Inv-loop μ-loop
-loop-again c = (omega arith, sym (custom-miss _ (c .before .before .before .loop .j) _ (c .before .before .loop-test .taken) refl (c .if1 .left)) ∙ c .before .before .before .loop .inv .1)
+loop-again c = (
+  omega arith,
+  sym (custom-miss _ (c .before .before .before .loop .j) _ (c .before .before .loop-test .taken) refl (c .if1 .left))
+      ∙ c .before .before .before .loop .inv .1,
+)
 
 returns-2 : tie.Need-returns-2 Inv-loop μ-loop
 returns-2 c = custom-end _ (c .before .loop .j) (c .loop-test .left) ∙ c .before .loop .inv .1

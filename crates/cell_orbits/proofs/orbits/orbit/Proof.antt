@@ -8,21 +8,26 @@ use borrow.Author.Tests.{not-true, not-false}
 use Rattle.map_betas.specs.declared.loans.Loans.{Loans}
 use Rattle.map_betas.specs.Answers.{isDone}
 use Rattle.map_betas.specs.Guards.{guardOf}
-use Rattle.cell_steps.specs.Calls.{left, orbitGuard, orbitDone, orbitCall}
-use Rattle.cell_steps.proofs.StepLaws.{steps-are}
-use Rattle.cell_steps.proofs.CallLaws.{behind-refused, behind-done, orbit-ready}
+use Rattle.map_betas.proofs.AnswerLaws.{behind-refused, behind-done}
+use Rattle.cell_steps.specs.Calls.{orbitGuard, orbitDone, orbitCall}
+use Rattle.cell_steps.proofs.StepLaws.{steps-are, codes-fit, policy-by}
+use Rattle.cell_steps.proofs.CallLaws.{orbit-ready}
 use borrow.Author.Needs.{needs}
 use Rattle.cell_orbits.proofs.orbits.orbit.Statement.{statement}
 use Rattle.cell_orbits.proofs.orbits.orbit.Tie as tie
 
--- the guard's answer is the definition's
-guarded : (c : tie.After-guard) → c .guard .result ≡ orbitGuard (c .before .before .before .before .before .args .rows .now) (c .before .before .before .before .before .args .marks .now) (c .before .before .before .before .before .args .output .now) (c .before .before .before .before .before .args .d)
+guarded : (c : tie.After-guard) → c .guard .result ≡ orbitGuard (c .before .before .before .before .before .args .rows .now)
+    (c .before .before .before .before .before .args .marks .now) (c .before .before .before .before .before .args .output .now)
+    (c .before .before .before .before .before .args .d)
 guarded c =
-    let entry = c .before .before .before .before .before in
-    c .guard .ensures ∙ ap (λ (l : Loans). guardOf (entry .args .rows .now) l 0 (entry .args .d) (entry .args .d)) (c .before .orbit-loans .ensures)
+    let at-orbit-loans = c .before in
+    let entry = at-orbit-loans .before .before .before .before in
+    c .guard .ensures ∙ ap (λ (l : Loans). guardOf (entry .args .rows .now) l 0 (entry .args .d) (entry .args .d)) (at-orbit-loans .orbit-loans .ensures)
 
 passed : (c : tie.Else1) → isDone (c .before .before .guard .result) ≡ true
-passed c = sym (c .before .is-done .ensures) ∙ not-false _ (c .if1 .left)
+passed c =
+    let at-is-done = c .before in
+    sym (at-is-done .is-done .ensures) ∙ not-false _ (c .if1 .left)
 
 orbit-loans-requires : tie.Need-orbit-loans-requires
 orbit-loans-requires c κs = search needs
@@ -35,26 +40,35 @@ is-done-requires c κs = search needs
 
 returns : tie.Need-returns
 unfolding orbitCall
-returns c = behind-refused (c .before .before .guard .result) _ (guarded (c .before .before)) _ _ _ (sym (c .before .is-done .ensures) ∙ not-true _ (c .if1 .taken))
+returns c =
+    let at-is-done = c .before in
+    let at-guard = at-is-done .before in
+    behind-refused (at-guard .guard .result) _ (guarded (c .before .before)) _ _ (sym (at-is-done .is-done .ensures) ∙ not-true _ (c .if1 .taken))
 
 steps-of-requires : tie.Need-steps-of-requires
 steps-of-requires c κs = search needs
 
 array-share-prefix-codes : tie.Need-array-share-prefix-codes
-array-share-prefix-codes c = c .before .steps-of .ensures .0
+array-share-prefix-codes c =
+    let at-steps-of = c .before in
+    let entry = at-steps-of .before .before .before .before .before .before .before .before in
+    codes-fit (entry .args .policy) _ (at-steps-of .steps-of .ensures) .0
 
 slice-aggregate-list-orbit : tie.Need-slice-aggregate-list-orbit
-slice-aggregate-list-orbit c = sym (length-take-le _ (c .before .before .steps-of .result .codes) (c .before .before .steps-of .ensures .0))
+slice-aggregate-list-orbit c =
+    let at-steps-of = c .before .before in
+    let entry = at-steps-of .before .before .before .before .before .before .before .before in
+    sym (length-take-le _ (at-steps-of .steps-of .result .codes) (codes-fit (entry .args .policy) _ (at-steps-of .steps-of .ensures) .0))
 
 list-orbit-requires : tie.Need-list-orbit-requires
 list-orbit-requires c κs =
     let at-steps-of = c .before .before .before .before in
-    let back5 = at-steps-of .before in
-    let back7 = back5 .before .before in
-    let back12 = back7 .before .before .before .before .before in
-    let s = back12 in
-    let r = orbit-ready (s .args .rows .now) (s .args .marks .now) (s .args .output .now) (s .args .d) _ (guarded back7) (passed back5) in
-    (r .formed, rw (at-steps-of .steps-of .ensures .1) (steps-are (s .args .policy)), r .lent .marks, r .lent .output, r .left .below)
+    let at-if1 = at-steps-of .before in
+    let at-guard = at-if1 .before .before in
+    let entry = at-guard .before .before .before .before .before in
+    let e = codes-fit (entry .args .policy) _ (at-steps-of .steps-of .ensures) .1 in
+    let r = orbit-ready (entry .args .rows .now) (entry .args .marks .now) (entry .args .output .now) (entry .args .d) _ (guarded at-guard) (passed at-if1) in
+    (r .formed, rw e (steps-are (entry .args .policy)), r .lent .marks, r .lent .output, r .left .below, policy-by (entry .args .policy) _ e)
 
 same-length : tie.Need-same-length
 same-length c = search needs
@@ -67,13 +81,13 @@ unfolding orbitCall
 returns-2 c =
     let at-list-orbit = c .before .before .before .before in
     let at-steps-of = at-list-orbit .before .before .before .before .before in
-    let back10 = at-steps-of .before in
-    let at-guard = back10 .before .before in
-    let back17 = at-guard .before .before .before .before .before in
-    let s = back17 in
+    let at-if1 = at-steps-of .before in
+    let at-guard = at-if1 .before .before in
+    let entry = at-guard .before .before .before .before .before in
     at-list-orbit .list-orbit .ensures
-    ∙ ap (λ (steps : List ℕ). orbitDone (s .args .rows .now) (s .args .marks .now) (s .args .output .now) steps (s .args .d)) (at-steps-of .steps-of .ensures .1)
-    ∙ behind-done (at-guard .guard .result) _ (guarded at-guard) _ _ _ (passed back10)
+    ∙ ap (λ (steps : List ℕ). orbitDone (entry .args .rows .now) (entry .args .marks .now) (entry .args .output .now) steps (entry .args .d))
+    (codes-fit (entry .args .policy) _ (at-steps-of .steps-of .ensures) .1)
+    ∙ behind-done (at-guard .guard .result) _ (guarded at-guard) _ _ (passed at-if1)
 
 pub orbit-spec : {M : Type 1} → statement M
 orbit-spec =

@@ -2,15 +2,16 @@
 use Prim.Native.Nat.{_-_, _<_}
 use native.Mathlib.Omega.{arith}
 use Rattle.map_betas.specs.Betas.{darts}
-use Rattle.cell_steps.proofs.TurnLaws.{Flooding, flooding-starts, flooding-turn, flooding-ends, dart-below, count-n, fit-same}
+use Rattle.cell_steps.proofs.TurnLaws.{Flooding, flooding-starts, flooding-turn, flooding-ends, dart-below, count-n}
+use Rattle.cell_steps.proofs.ScratchLaws.{scratch-same}
 use Rattle.cell_search.proofs.search.flood.Statement.{statement}
 use Rattle.cell_search.proofs.search.flood.Tie as tie
 
 abbrev Inv-loop : tie.InvT-loop
-Inv-loop rows written steps marks₀ out₀ from seeds k₀ count₀ marks out k count = Flooding rows steps marks₀ out₀ from seeds marks out k count
+Inv-loop rows policy steps marks₀ out₀ from seeds k₀ count₀ marks out k count = Flooding rows steps marks₀ out₀ from seeds marks out k count
 
 abbrev μ-loop : tie.MeasureT-loop
-μ-loop rows written steps marks₀ out₀ from seeds k₀ count₀ marks out k count = darts rows - k
+μ-loop rows policy steps marks₀ out₀ from seeds k₀ count₀ marks out k count = darts rows - k
 
 loop-holds : tie.Need-loop-holds Inv-loop μ-loop
 loop-holds c =
@@ -29,10 +30,11 @@ visit-requires c κs =
     let back9 = at-loop .before .before .before .before .before in
     let l = at-loop .loop in
     let s = back9 in (
-      fit-same _ _ (s .args .marks .now) (s .args .out .now) _ _ (s .pre .0) (l .inv .marks-n) (l .inv .out-n),
+      scratch-same _ (s .args .marks .now) (s .args .out .now) _ _ (s .pre .0) (l .inv .marks-n) (l .inv .out-n),
       l .inv .queue,
       dart-below _ _ (s .args .marks .now) (s .args .out .now) _ _ (s .pre .0 .marks-n) _ _ _ _ (l .inv) (c .before .before .before .loop-test .taken),
       s .pre .3,
+      s .pre .4,
     )
 
 add-k : tie.Need-add-k Inv-loop μ-loop
@@ -62,7 +64,8 @@ loop-again c =
     let l = at-loop .loop in
     let s = back14 in
     let v = at-visit .visit in
-    flooding-turn _ _ (s .args .marks .now) (s .args .out .now) _ _ (s .pre .0 .marks-n) _ _ _ _ (l .inv) _ _ _ (at-loop-test .loop-test .taken) (v .kept .1 .1 .1 .0) (v .kept .1 .1 .1 .1 .0) (v .ensures)
+    flooding-turn _ _ (s .args .marks .now) (s .args .out .now) _ _ (s .pre .0 .marks-n) _ _ _ _ (l .inv) _ _ _ (at-loop-test .loop-test .taken)
+    (v .kept .1 .1 .1 .0) (v .kept .1 .1 .1 .1 .0) (v .ensures)
 
 same-length : tie.Need-same-length Inv-loop μ-loop
 same-length c = c .before .loop .inv .marks-n

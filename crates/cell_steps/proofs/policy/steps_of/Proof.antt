@@ -1,5 +1,4 @@
 -- `policy::steps_of` meets its contract, policy by policy. Assumes nothing.
-use native.Mathlib.Omega.{arith}
 use mathlib.Core.Path.{refl}
 use Rattle.cell_steps.proofs.CallLaws.{given-steps}
 use borrow.Author.Needs.{needs}
@@ -48,26 +47,35 @@ enum-told-7 c = search needs
 first-requires-7 : tie.Need-first-requires-7
 first-requires-7 c κs = search needs
 
+enum-told-8 : tie.Need-enum-told-8
+enum-told-8 c = search needs
+
+first-requires-8 : tie.Need-first-requires-8
+first-requires-8 c κs = search needs
+
 returns : tie.Need-returns
-returns c = given-steps _ _ _ _ _ _ (c .before .enum-told .given .1) (c .first .ensures .0) (c .first .ensures .1) (omega arith) refl
+returns c = given-steps _ _ _ _ _ (c .before .enum-told .given .1) (c .first .ensures .0) (c .first .ensures .1) refl
 
 returns-2 : tie.Need-returns-2
-returns-2 c = given-steps _ _ _ _ _ _ (c .before .enum-told2 .given .1) (c .first2 .ensures .0) (c .first2 .ensures .1) (omega arith) refl
+returns-2 c = given-steps _ _ _ _ _ (c .before .enum-told2 .given .1) (c .first2 .ensures .0) (c .first2 .ensures .1) refl
 
 returns-3 : tie.Need-returns-3
-returns-3 c = given-steps _ _ _ _ _ _ (c .before .enum-told3 .given .1) (c .first3 .ensures .0) (c .first3 .ensures .1) (omega arith) refl
+returns-3 c = given-steps _ _ _ _ _ (c .before .enum-told3 .given .1) (c .first3 .ensures .0) (c .first3 .ensures .1) refl
 
 returns-4 : tie.Need-returns-4
-returns-4 c = given-steps _ _ _ _ _ _ (c .before .enum-told4 .given .1) (c .first4 .ensures .0) (c .first4 .ensures .1) (omega arith) refl
+returns-4 c = given-steps _ _ _ _ _ (c .before .enum-told4 .given .1) (c .first4 .ensures .0) (c .first4 .ensures .1) refl
 
 returns-5 : tie.Need-returns-5
-returns-5 c = given-steps _ _ _ _ _ _ (c .before .enum-told5 .given .1) (c .first5 .ensures .0) (c .first5 .ensures .1) (omega arith) refl
+returns-5 c = given-steps _ _ _ _ _ (c .before .enum-told5 .given .1) (c .first5 .ensures .0) (c .first5 .ensures .1) refl
 
 returns-6 : tie.Need-returns-6
-returns-6 c = given-steps _ _ _ _ _ _ (c .before .enum-told6 .given .1) (c .first6 .ensures .0) (c .first6 .ensures .1) (omega arith) refl
+returns-6 c = given-steps _ _ _ _ _ (c .before .enum-told6 .given .1) (c .first6 .ensures .0) (c .first6 .ensures .1) refl
 
 returns-7 : tie.Need-returns-7
-returns-7 c = given-steps _ _ _ _ _ _ (c .before .enum-told7 .given .1) (c .first7 .ensures .0) (c .first7 .ensures .1) (omega arith) refl
+returns-7 c = given-steps _ _ _ _ _ (c .before .enum-told7 .given .1) (c .first7 .ensures .0) (c .first7 .ensures .1) refl
+
+returns-8 : tie.Need-returns-8
+returns-8 c = given-steps _ _ _ _ _ (c .before .enum-told8 .given .1) (c .first8 .ensures .0) (c .first8 .ensures .1) refl
 
 pub steps-of-spec : {M : Type 1} → statement M
 steps-of-spec =
@@ -87,10 +95,13 @@ steps-of-spec =
     first-requires-6
     enum-told-7
     first-requires-7
+    enum-told-8
+    first-requires-8
     returns
     returns-2
     returns-3
     returns-4
     returns-5
     returns-6
-    returns-7)
+    returns-7
+    returns-8)

@@ -32,13 +32,15 @@ returns-2 : tie.Need-returns-2
 returns-2 c =
     let at-vertex-offset = c .before .before .before .before in
     let at-flag-offset = at-vertex-offset .before in
-    flags-bits _ _ _ _ (at-flag-offset .flag-offset .ensures) (at-vertex-offset .vertex-offset .ensures) (omega arith) (sym (c .before .bits-only .ensures) ∙ not-true _ (c .if2 .taken))
+    flags-bits _ _ _ _ (at-flag-offset .flag-offset .ensures) (at-vertex-offset .vertex-offset .ensures) (omega arith)
+    (sym (c .before .bits-only .ensures) ∙ not-true _ (c .if2 .taken))
 
 returns-3 : tie.Need-returns-3
 returns-3 c =
     let at-vertex-offset = c .before .before .before .before in
     let at-flag-offset = at-vertex-offset .before in
-    flags-pass _ _ _ _ (at-flag-offset .flag-offset .ensures) (at-vertex-offset .vertex-offset .ensures) (omega arith) (sym (c .before .bits-only .ensures) ∙ not-false _ (c .if2 .left))
+    flags-pass _ _ _ _ (at-flag-offset .flag-offset .ensures) (at-vertex-offset .vertex-offset .ensures) (omega arith)
+    (sym (c .before .bits-only .ensures) ∙ not-false _ (c .if2 .left))
 
 pub flags-test-spec : {M : Type 1} → statement M
 flags-test-spec =

@@ -21,7 +21,8 @@ record-good-requires : tie.Need-record-good-requires Inv-loop μ-loop
 record-good-requires c κs = omega arith
 
 returns : tie.Need-returns Inv-loop μ-loop
-returns c = records-bad _ _ _ _ _ _ (omega arith) (sym (c .before .record-good .ensures) ∙ not-true _ (c .if1 .taken)) ∙ sym (c .before .before .before .loop .inv .2)
+returns c = records-bad _ _ _ _ _ _ (omega arith) (sym (c .before .record-good .ensures) ∙ not-true _ (c .if1 .taken))
+    ∙ sym (c .before .before .before .loop .inv .2)
 
 word-at-requires : tie.Need-word-at-requires Inv-loop μ-loop
 word-at-requires c κs = omega arith
@@ -40,7 +41,8 @@ loop-again c =
     let at-loop = c .before .before .before .before in (
       omega arith,
       omega arith,
-      at-loop .loop .inv .2 ∙ records-next _ _ _ _ _ _ _ (omega arith) (sym (c .before .before .record-good .ensures) ∙ not-false _ (c .before .if1 .left)) (c .word-at .ensures),
+      at-loop .loop .inv .2 ∙ records-next _ _ _ _ _ _ _ (omega arith) (sym (c .before .before .record-good .ensures) ∙ not-false _ (c .before .if1 .left))
+          (c .word-at .ensures),
     )
 
 returns-2 : tie.Need-returns-2 Inv-loop μ-loop

@@ -23,7 +23,8 @@ layout-test-requires c κs =
     (start-whole _ (ap isDone (sym (c .before .before .start-test .ensures)) ∙ sym (c .before .is-done .ensures) ∙ not-false _ (c .if1 .left)) .1, entry .pre)
 
 returns-2 : tie.Need-returns-2
-returns-2 c = c .layout-test .ensures ∙ goes-on _ _ _ (c .before .before .before .start-test .ensures) (sym (c .before .before .is-done .ensures) ∙ not-false _ (c .before .if1 .left))
+returns-2 c = c .layout-test .ensures ∙ goes-on _ _ _ (c .before .before .before .start-test .ensures)
+    (sym (c .before .before .is-done .ensures) ∙ not-false _ (c .before .if1 .left))
 
 pub header-test-spec : {M : Type 1} → statement M
 header-test-spec =

@@ -1,6 +1,6 @@
 -- `reader::fill_slots` meets its contract: no vertex at all, then the records put in. Assumes nothing.
 use native.Mathlib.Omega.{arith}
-use Rattle.image_reader.proofs.FillLaws.{sound-from, slots-filled}
+use Rattle.image_fill.proofs.FillLaws.{sound-from, slots-filled}
 use borrow.Author.Needs.{needs}
 use Rattle.image_reader.proofs.reader.fill_slots.Statement.{statement}
 use Rattle.image_reader.proofs.reader.fill_slots.Tie as tie
@@ -42,7 +42,8 @@ returns c =
     let at-clear-coordinates = at-vertex-offset .before .before .before in
     let at-clear-marks = at-clear-coordinates .before .before .before .before in
     let entry = at-clear-marks .before .before .before .before .before in
-    slots-filled _ _ _ _ (at-vertex-offset .vertex-offset .ensures) (entry .pre .2) _ _ _ _ _ _ (at-clear-marks .clear-marks .ensures) (at-clear-coordinates .clear-coordinates .ensures)
+    slots-filled _ _ _ _ (at-vertex-offset .vertex-offset .ensures) (entry .pre .2) _ _ _ _ _ _ (at-clear-marks .clear-marks .ensures)
+    (at-clear-coordinates .clear-coordinates .ensures)
     (at-put-records .put-records .ensures)
 
 pub fill-slots-spec : {M : Type 1} → statement M

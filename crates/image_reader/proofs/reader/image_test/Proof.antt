@@ -42,7 +42,8 @@ returns-2 : tie.Need-returns-2
 returns-2 c =
     let back4 = c .before .before .before .before in
     let at-header-test = back4 .before .before in
-    image-loans _ _ _ _ _ (at-header-test .header-test .ensures) (passed back4) _ _ (c .before .before .before .word-at .ensures) (c .before .before .loans-test .ensures)
+    image-loans _ _ _ _ _ (at-header-test .header-test .ensures) (passed back4) _ _ (c .before .before .before .word-at .ensures)
+    (c .before .before .loans-test .ensures)
     (sym (c .before .is-done2 .ensures) ∙ not-true _ (c .if2 .taken))
 
 word-at-requires-2 : tie.Need-word-at-requires-2
@@ -63,7 +64,8 @@ returns-3 c =
     let back6 = at-word-at .before in
     let at-header-test = back6 .before .before in
     image-blocks _ _ _ _ _ (at-header-test .header-test .ensures) (passed back6) _ _ (at-word-at .word-at .ensures) (at-loans-test .loans-test .ensures)
-    (sym (c .before .before .before .is-done2 .ensures) ∙ not-false _ (c .before .before .if2 .left)) _ _ (c .before .word-at2 .ensures) (c .blocks-test .ensures)
+    (sym (c .before .before .before .is-done2 .ensures) ∙ not-false _ (c .before .before .if2 .left)) _ _ (c .before .word-at2 .ensures)
+    (c .blocks-test .ensures)
 
 pub image-test-spec : {M : Type 1} → statement M
 image-test-spec =

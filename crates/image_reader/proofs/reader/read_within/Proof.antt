@@ -14,15 +14,20 @@ use borrow.Author.Needs.{needs}
 use Rattle.image_reader.proofs.reader.read_within.Statement.{statement}
 use Rattle.image_reader.proofs.reader.read_within.Tie as tie
 
-tested : (c : tie.After-image-test) → c .image-test .result ≡ testOf (c .before .before .before .before .before .before .before .args .most) (c .before .before .before .before .before .before .before .args .bytes .now) (c .before .before .before .before .before .before .before .args .flags .now) (c .before .before .before .before .before .before .before .args .vertices .now) (c .before .before .before .before .before .before .before .args .coordinates .now) (c .before .before .before .before .before .before .before .args .rows .now)
+tested : (c : tie.After-image-test) →
+    let a = c .before .before .before .before .before .before .before .args in
+    c .image-test .result ≡ testOf (a .most) (a .bytes .now) (a .flags .now) (a .vertices .now) (a .coordinates .now) (a .rows .now)
 tested c =
     let entry = c .before .before .before .before .before .before .before in
-    c .image-test .ensures ∙ ap (λ (l : Loans). imageTest (entry .args .most) (entry .args .bytes .now) l (length (entry .args .rows .now))) (c .before .reader-loans .ensures)
+    c .image-test .ensures ∙ ap (λ (l : Loans). imageTest (entry .args .most) (entry .args .bytes .now) l (length (entry .args .rows .now)))
+    (c .before .reader-loans .ensures)
 
 passed : (c : tie.Else1) → isDone (c .before .before .image-test .result) ≡ true
 passed c = sym (c .before .is-done .ensures) ∙ not-false _ (c .if1 .left)
 
-fit : (c : tie.Else1) → Accepted (c .before .before .before .before .before .before .before .before .before .args .most) (c .before .before .before .before .before .before .before .before .before .args .bytes .now) (c .before .before .before .before .before .before .before .before .before .args .flags .now) (c .before .before .before .before .before .before .before .before .before .args .vertices .now) (c .before .before .before .before .before .before .before .before .before .args .coordinates .now) (c .before .before .before .before .before .before .before .before .before .args .rows .now)
+fit : (c : tie.Else1) →
+    let a = c .before .before .before .before .before .before .before .before .before .args in
+    Accepted (a .most) (a .bytes .now) (a .flags .now) (a .vertices .now) (a .coordinates .now) (a .rows .now)
 fit c =
     let entry = c .before .before .before .before .before .before .before .before .before in
     accepted-by _ _ _ _ _ _ (entry .pre) (ap isDone (sym (tested (c .before .before))) ∙ passed c)
@@ -117,7 +122,8 @@ returns-2 c =
     let back20 = back18 .before .before in
     let entry = back20 .before .before .before .before .before .before .before in
     read-done _ _ _ _ _ _ _ (tested back20) (passed back18) _ _ _ _ _ _ (at-word-at .word-at .ensures) (at-word-at2 .word-at2 .ensures)
-    (flags-copied (entry .args .bytes .now) (entry .args .flags .now) _ _ _ (at-flag-offset .flag-offset .ensures) (at-copy-bytes .copy-bytes .ensures)) (at-fill-slots .fill-slots .ensures) (c .before .before .copy-words .ensures)
+    (flags-copied (entry .args .bytes .now) (entry .args .flags .now) _ _ _ (at-flag-offset .flag-offset .ensures) (at-copy-bytes .copy-bytes .ensures))
+    (at-fill-slots .fill-slots .ensures) (c .before .before .copy-words .ensures)
 
 pub read-within-spec : {M : Type 1} → statement M
 read-within-spec =

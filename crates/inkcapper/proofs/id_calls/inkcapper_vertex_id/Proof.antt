@@ -1,7 +1,5 @@
 -- `id_calls::inkcapper_vertex_id` meets its contract: the call's answer, handed on. Assumes nothing.
-use mathlib.Core.Path.{_∙_, ap}
-use Rattle.cell_names.specs.Calls.{IdLeft}
-use Rattle.inkcapper.specs.Flat.{flatOf}
+use Rattle.map_betas.proofs.AnswerLaws.{crosses}
 use borrow.Author.Needs.{needs}
 use Rattle.inkcapper.proofs.id_calls.inkcapper_vertex_id.Statement.{statement}
 use Rattle.inkcapper.proofs.id_calls.inkcapper_vertex_id.Tie as tie
@@ -19,14 +17,7 @@ same-length-2 : tie.Need-same-length-2
 same-length-2 c = search needs
 
 returns : tie.Need-returns
-returns c =
-    let at-vertex-id = c .before .before .before .before .before .before in (
-      c .hand-on .ensures ∙ ap (λ (o : IdLeft). flatOf (o .answer)) (at-vertex-id .vertex-id .ensures),
-      (
-        ap (λ (o : IdLeft). o .marks) (at-vertex-id .vertex-id .ensures),
-        ap (λ (o : IdLeft). o .queue) (at-vertex-id .vertex-id .ensures),
-      ),
-    )
+returns c = crosses _ _ _ _ _ (c .hand-on .ensures) (c .before .before .before .before .before .before .vertex-id .ensures)
 
 pub inkcapper-vertex-id-spec : {M : Type 1} → statement M
 inkcapper-vertex-id-spec =

@@ -1,7 +1,5 @@
 -- `image_calls::inkcapper_read_image` meets its contract: the call's answer, handed on. Assumes nothing.
-use mathlib.Core.Path.{_∙_, ap}
-use Rattle.image_reader.specs.Reads.{Read}
-use Rattle.inkcapper.specs.Flat.{flatOf}
+use Rattle.map_betas.proofs.AnswerLaws.{crosses}
 use borrow.Author.Needs.{needs}
 use Rattle.inkcapper.proofs.image_calls.inkcapper_read_image.Statement.{statement}
 use Rattle.inkcapper.proofs.image_calls.inkcapper_read_image.Tie as tie
@@ -25,20 +23,7 @@ same-length-4 : tie.Need-same-length-4
 same-length-4 c = search needs
 
 returns : tie.Need-returns
-returns c =
-    let at-read-image = c .before .before .before .before .before .before .before .before .before .before in (
-      c .hand-on .ensures ∙ ap (λ (o : Read). flatOf (o .answer)) (at-read-image .read-image .ensures),
-      (
-        ap (λ (o : Read). o .flags) (at-read-image .read-image .ensures),
-        (
-          ap (λ (o : Read). o .vertices) (at-read-image .read-image .ensures),
-          (
-            ap (λ (o : Read). o .coordinates) (at-read-image .read-image .ensures),
-            ap (λ (o : Read). o .rows) (at-read-image .read-image .ensures),
-          ),
-        ),
-      ),
-    )
+returns c = crosses _ _ _ _ _ (c .hand-on .ensures) (c .before .before .before .before .before .before .before .before .before .before .read-image .ensures)
 
 pub inkcapper-read-image-spec : {M : Type 1} → statement M
 inkcapper-read-image-spec =

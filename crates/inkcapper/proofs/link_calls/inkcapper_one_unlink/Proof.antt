@@ -1,7 +1,5 @@
 -- `link_calls::inkcapper_one_unlink` meets its contract: the call's answer, handed on. Assumes nothing.
-use mathlib.Core.Path.{_∙_, ap}
-use Rattle.map_betas.specs.Answers.{Out}
-use Rattle.inkcapper.specs.Flat.{flatOf}
+use Rattle.map_betas.proofs.AnswerLaws.{crosses}
 use borrow.Author.Needs.{needs}
 use Rattle.inkcapper.proofs.link_calls.inkcapper_one_unlink.Statement.{statement}
 use Rattle.inkcapper.proofs.link_calls.inkcapper_one_unlink.Tie as tie
@@ -16,11 +14,7 @@ same-length : tie.Need-same-length
 same-length c = search needs
 
 returns : tie.Need-returns
-returns c =
-    let at-one-unlink = c .before .before .before .before in (
-      c .hand-on .ensures ∙ ap (λ (o : Out). flatOf (o .answer)) (at-one-unlink .one-unlink .ensures),
-      ap (λ (o : Out). o .rows) (at-one-unlink .one-unlink .ensures),
-    )
+returns c = crosses _ _ _ _ _ (c .hand-on .ensures) (c .before .before .before .before .one-unlink .ensures)
 
 pub inkcapper-one-unlink-spec : {M : Type 1} → statement M
 inkcapper-one-unlink-spec =

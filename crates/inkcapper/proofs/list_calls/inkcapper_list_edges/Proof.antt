@@ -1,7 +1,5 @@
 -- `list_calls::inkcapper_list_edges` meets its contract: the call's answer, handed on. Assumes nothing.
-use mathlib.Core.Path.{_∙_, ap}
-use Rattle.cell_names.specs.Calls.{ListLeft}
-use Rattle.inkcapper.specs.Flat.{flatOf}
+use Rattle.map_betas.proofs.AnswerLaws.{crosses}
 use borrow.Author.Needs.{needs}
 use Rattle.inkcapper.proofs.list_calls.inkcapper_list_edges.Statement.{statement}
 use Rattle.inkcapper.proofs.list_calls.inkcapper_list_edges.Tie as tie
@@ -22,17 +20,7 @@ same-length-3 : tie.Need-same-length-3
 same-length-3 c = search needs
 
 returns : tie.Need-returns
-returns c =
-    let at-list-edges = c .before .before .before .before .before .before .before .before in (
-      c .hand-on .ensures ∙ ap (λ (o : ListLeft). flatOf (o .answer)) (at-list-edges .list-edges .ensures),
-      (
-        ap (λ (o : ListLeft). o .marks) (at-list-edges .list-edges .ensures),
-        (
-          ap (λ (o : ListLeft). o .queue) (at-list-edges .list-edges .ensures),
-          ap (λ (o : ListLeft). o .output) (at-list-edges .list-edges .ensures),
-        ),
-      ),
-    )
+returns c = crosses _ _ _ _ _ (c .hand-on .ensures) (c .before .before .before .before .before .before .before .before .list-edges .ensures)
 
 pub inkcapper-list-edges-spec : {M : Type 1} → statement M
 inkcapper-list-edges-spec =

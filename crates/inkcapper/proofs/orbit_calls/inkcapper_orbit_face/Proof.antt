@@ -1,7 +1,5 @@
 -- `orbit_calls::inkcapper_orbit_face` meets its contract: the call's answer, handed on. Assumes nothing.
-use mathlib.Core.Path.{_∙_, ap}
-use Rattle.cell_steps.specs.Calls.{Left}
-use Rattle.inkcapper.specs.Flat.{flatOf}
+use Rattle.map_betas.proofs.AnswerLaws.{crosses}
 use borrow.Author.Needs.{needs}
 use Rattle.inkcapper.proofs.orbit_calls.inkcapper_orbit_face.Statement.{statement}
 use Rattle.inkcapper.proofs.orbit_calls.inkcapper_orbit_face.Tie as tie
@@ -19,14 +17,7 @@ same-length-2 : tie.Need-same-length-2
 same-length-2 c = search needs
 
 returns : tie.Need-returns
-returns c =
-    let at-orbit = c .before .before .before .before .before .before in (
-      c .hand-on .ensures ∙ ap (λ (o : Left). flatOf (o .answer)) (at-orbit .orbit .ensures),
-      (
-        ap (λ (o : Left). o .marks) (at-orbit .orbit .ensures),
-        ap (λ (o : Left). o .output) (at-orbit .orbit .ensures),
-      ),
-    )
+returns c = crosses _ _ _ _ _ (c .hand-on .ensures) (c .before .before .before .before .before .before .orbit .ensures)
 
 pub inkcapper-orbit-face-spec : {M : Type 1} → statement M
 inkcapper-orbit-face-spec =

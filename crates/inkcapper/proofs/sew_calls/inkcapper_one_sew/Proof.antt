@@ -1,7 +1,5 @@
 -- `sew_calls::inkcapper_one_sew` meets its contract: the call's answer, handed on. Assumes nothing.
-use mathlib.Core.Path.{_∙_, ap}
-use Rattle.sew_ground.specs.Calls.{SewLeft}
-use Rattle.inkcapper.specs.Flat.{flatOf}
+use Rattle.map_betas.proofs.AnswerLaws.{crosses}
 use borrow.Author.Needs.{needs}
 use Rattle.inkcapper.proofs.sew_calls.inkcapper_one_sew.Statement.{statement}
 use Rattle.inkcapper.proofs.sew_calls.inkcapper_one_sew.Tie as tie
@@ -25,20 +23,7 @@ same-length-4 : tie.Need-same-length-4
 same-length-4 c = search needs
 
 returns : tie.Need-returns
-returns c =
-    let at-one-sew = c .before .before .before .before .before .before .before .before .before .before in (
-      c .hand-on .ensures ∙ ap (λ (o : SewLeft). flatOf (o .answer)) (at-one-sew .one-sew .ensures),
-      (
-        ap (λ (o : SewLeft). o .rows) (at-one-sew .one-sew .ensures),
-        (
-          ap (λ (o : SewLeft). o .marks) (at-one-sew .one-sew .ensures),
-          (
-            ap (λ (o : SewLeft). o .queue) (at-one-sew .one-sew .ensures),
-            ap (λ (o : SewLeft). o .plan) (at-one-sew .one-sew .ensures),
-          ),
-        ),
-      ),
-    )
+returns c = crosses _ _ _ _ _ (c .hand-on .ensures) (c .before .before .before .before .before .before .before .before .before .before .one-sew .ensures)
 
 pub inkcapper-one-sew-spec : {M : Type 1} → statement M
 inkcapper-one-sew-spec =

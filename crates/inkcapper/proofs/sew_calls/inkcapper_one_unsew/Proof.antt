@@ -1,7 +1,5 @@
 -- `sew_calls::inkcapper_one_unsew` meets its contract: the call's answer, handed on. Assumes nothing.
-use mathlib.Core.Path.{_∙_, ap}
-use Rattle.sew_ground.specs.Calls.{SewLeft}
-use Rattle.inkcapper.specs.Flat.{flatOf}
+use Rattle.map_betas.proofs.AnswerLaws.{crosses}
 use borrow.Author.Needs.{needs}
 use Rattle.inkcapper.proofs.sew_calls.inkcapper_one_unsew.Statement.{statement}
 use Rattle.inkcapper.proofs.sew_calls.inkcapper_one_unsew.Tie as tie
@@ -25,20 +23,7 @@ same-length-4 : tie.Need-same-length-4
 same-length-4 c = search needs
 
 returns : tie.Need-returns
-returns c =
-    let at-one-unsew = c .before .before .before .before .before .before .before .before .before .before in (
-      c .hand-on .ensures ∙ ap (λ (o : SewLeft). flatOf (o .answer)) (at-one-unsew .one-unsew .ensures),
-      (
-        ap (λ (o : SewLeft). o .rows) (at-one-unsew .one-unsew .ensures),
-        (
-          ap (λ (o : SewLeft). o .marks) (at-one-unsew .one-unsew .ensures),
-          (
-            ap (λ (o : SewLeft). o .queue) (at-one-unsew .one-unsew .ensures),
-            ap (λ (o : SewLeft). o .plan) (at-one-unsew .one-unsew .ensures),
-          ),
-        ),
-      ),
-    )
+returns c = crosses _ _ _ _ _ (c .hand-on .ensures) (c .before .before .before .before .before .before .before .before .before .before .one-unsew .ensures)
 
 pub inkcapper-one-unsew-spec : {M : Type 1} → statement M
 inkcapper-one-unsew-spec =

@@ -1,8 +1,9 @@
 -- `bare::bare_unlink` meets its contract: what the tests refuse, or the core on real darts of a map. Assumes nothing.
 use native.Mathlib.Omega.{arith}
-use mathlib.Core.Path.{sym, _∙_}
+use mathlib.Core.Path.{sym, ap, _∙_}
 use borrow.Author.Tests.{not-true, not-false}
-use Rattle.map_betas.proofs.AnswerLaws.{call-refused, call-done}
+use Rattle.map_betas.specs.Answers.{given}
+use Rattle.map_betas.proofs.AnswerLaws.{behind-refused, behind-done}
 use Rattle.link_walk.specs.Calls.{bareUnlink}
 use Rattle.link_walk.proofs.CallLaws.{tested, passed}
 use borrow.Author.Needs.{needs}
@@ -23,13 +24,15 @@ same-length c = search needs
 
 returns : tie.Need-returns
 unfolding bareUnlink
-returns c = call-refused _ _ _ (tested _ _ _ _ _ (c .before .before .before .no-loans .ensures) (c .before .before .guard .ensures)) _ (sym (c .before .is-done .ensures) ∙ not-true _ (c .if1 .taken))
+returns c = behind-refused _ _ (tested _ _ _ _ _ (c .before .before .before .no-loans .ensures) (c .before .before .guard .ensures)) _ _
+    (sym (c .before .is-done .ensures) ∙ not-true _ (c .if1 .taken))
 
 unlink-core-requires : tie.Need-unlink-core-requires
 unlink-core-requires c κs =
     let at-no-loans = c .before .before .before .before in
     let entry = at-no-loans .before .before .before in
-    let h = passed _ _ _ _ (tested _ _ _ _ _ (at-no-loans .no-loans .ensures) (c .before .before .before .guard .ensures)) (sym (c .before .before .is-done .ensures) ∙ not-false _ (c .before .if1 .left)) in
+    let h = passed _ _ _ _ (tested _ _ _ _ _ (at-no-loans .no-loans .ensures) (c .before .before .before .guard .ensures))
+    (sym (c .before .before .is-done .ensures) ∙ not-false _ (c .before .if1 .left)) in
     (entry .pre .0, entry .pre .1, omega (arith, h .0 .sized .whole, h .2), omega (arith, h .0 .sized .whole, h .0 .below (entry .args .i) (entry .args .ld)))
 
 same-length-2 : tie.Need-same-length-2
@@ -42,7 +45,9 @@ returns-2 c =
     let at-is-done = at-if1 .before in
     let at-guard = at-is-done .before in
     let at-no-loans = at-guard .before in
-    c .before .before .unlink-core .ensures ∙ call-done _ _ _ (tested _ _ _ _ _ (at-no-loans .no-loans .ensures) (at-guard .guard .ensures)) _ (sym (at-is-done .is-done .ensures) ∙ not-false _ (at-if1 .if1 .left))
+    ap given (c .before .before .unlink-core .ensures)
+    ∙ behind-done _ _ (tested _ _ _ _ _ (at-no-loans .no-loans .ensures) (at-guard .guard .ensures)) _ _
+    (sym (at-is-done .is-done .ensures) ∙ not-false _ (at-if1 .if1 .left))
 
 pub bare-unlink-spec : {M : Type 1} → statement M
 bare-unlink-spec =

@@ -27,18 +27,24 @@ on-right c =
     rw (c .beta-at2 .ensures) (entry .pre .0 .below _ _)
 
 -- how it ends
-ends : (c : tie.After-walk-leg) → legOut (c .walk-leg .result) (c .walk-leg .last .0) ≡ legBack (c .before .before .before .before .before .before .before .args .un) (c .before .before .before .before .before .before .before .args .rows .now) (c .before .before .before .before .before .before .before .args .ld) (c .before .before .before .before .before .before .before .args .rd)
+ends : (c : tie.After-walk-leg) → legOut (c .walk-leg .result) (c .walk-leg .last .0)
+    ≡ legBack (c .before .before .before .before .before .before .before .args .un) (c .before .before .before .before .before .before .before .args
+    .rows .now) (c .before .before .before .before .before .before .before .args .ld) (c .before .before .before .before .before .before .before .args .rd)
 ends c =
     let at-beta-at = c .before .before .before .before in
     leg-start _ _ _ _ _ _ _ _ _ _ _ _ (at-beta-at .beta-at .ensures) (c .before .before .beta-at2 .ensures) (c .walk-leg .ensures)
 
-goes : (c : tie.After-walk-leg) → Walked (c .before .before .before .before .before .before .before .args .un) (c .before .before .before .before .before .before .before .args .rows .now) 0 1 (c .before .before .before .before .beta-at .result) (c .before .before .beta-at2 .result) 0 (legOut (c .walk-leg .result) (c .walk-leg .last .0))
+goes : (c : tie.After-walk-leg) → Walked (c .before .before .before .before .before .before .before .args .un)
+    (c .before .before .before .before .before .before .before .args .rows .now) 0 1 (c .before .before .before .before .beta-at .result)
+    (c .before .before .beta-at2 .result) 0 (legOut (c .walk-leg .result) (c .walk-leg .last .0))
 goes c =
     let entry = c .before .before .before .before .before .before .before in
-    leg-walked _ _ _ _ _ _ _ _ _ _ _ _ (c .walk-leg .ensures) (omega arith) (omega arith) (entry .pre .0) (on-left (c .before .before)) (on-right (c .before .before))
+    leg-walked _ _ _ _ _ _ _ _ _ _ _ _ (c .walk-leg .ensures) (omega arith) (omega arith) (entry .pre .0) (on-left (c .before .before))
+    (on-right (c .before .before))
 
 -- the second leg is undone
-again : (c : tie.After-undo-leg) → c .undo-leg .last .0 ≡ c .before .before .before .before .before .before .before .before .before .before .before .before .before .args .rows .now
+again : (c : tie.After-undo-leg) → c .undo-leg .last .0 ≡ c .before .before .before .before .before .before .before .before .before .before .before
+    .before .before .args .rows .now
 again c =
     let at-walk-leg = c .before .before .before .before .before .before in
     let back8 = at-walk-leg .before .before in
@@ -87,7 +93,8 @@ returns c =
     let back12 = at-is-done .before .before .before in
     let entry = back12 .before .before .before .before .before .before .before in
     last-refused _ _ _ _ _ (ends back12) _ (sym (at-is-done .is-done .ensures) ∙ not-true _ (at-if1 .if1 .taken))
-    (c .before .before .undo-leg2 .ensures ∙ ap (λ (x : List ℕ). undone (entry .args .un) (entry .args .steps) x 1 0 (entry .args .ld) (entry .args .rd)) (again back6))
+    (c .before .before .undo-leg2 .ensures ∙ ap (λ (x : List ℕ). undone (entry .args .un) (entry .args .steps) x 1 0 (entry .args .ld)
+    (entry .args .rd)) (again back6))
 
 pick-requires : tie.Need-pick-requires
 pick-requires c κs = search needs

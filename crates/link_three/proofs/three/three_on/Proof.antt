@@ -22,7 +22,9 @@ use Rattle.link_three.proofs.three.three_on.Statement.{statement}
 done : (c : tie.Else1) → isDone (c .before .before .before .before .step .result) ≡ true
 done c = sym (c .before .is-done .ensures) ∙ not-false _ (c .if1 .left)
 
-changed : (c : tie.Else1) → Changed (c .before .before .before .before .before .before .before .args .un) (c .before .before .before .before .before .before .before .args .rows .now) (c .before .before .before .before .before .before .before .args .ld) (c .before .before .before .before .before .before .before .args .rd) (c .before .before .before .before .step .last .0)
+changed : (c : tie.Else1) → Changed (c .before .before .before .before .before .before .before .args .un)
+    (c .before .before .before .before .before .before .before .args .rows .now) (c .before .before .before .before .before .before .before .args .ld)
+    (c .before .before .before .before .before .before .before .args .rd) (c .before .before .before .before .step .last .0)
 changed c =
     let at-step = c .before .before .before .before in
     let entry = at-step .before .before .before in
@@ -35,7 +37,8 @@ formed c =
     turn _ _ _ _ _ _ _ _ (entry .pre .0) (entry .pre .2) (entry .pre .3) (omega (arith, entry .pre .1)) (at-step .step .ensures) (done c) .0
 
 -- where the first leg starts
-on-left : (c : tie.After-beta-at2) → c .before .before .beta-at .result < darts (c .before .before .before .before .before .before .before .before .step .last .0)
+on-left : (c : tie.After-beta-at2) → c .before .before .beta-at .result < darts (c .before .before .before .before .before .before .before .before
+    .step .last .0)
 on-left c =
     let back4 = c .before .before .before .before in
     rw (c .before .before .beta-at .ensures) (formed back4 .below _ _)
@@ -46,24 +49,37 @@ on-right c =
     rw (c .beta-at2 .ensures) (formed back4 .below _ _)
 
 -- how it ends
-ends : (c : tie.After-walk-leg) → legOut (c .walk-leg .result) (c .walk-leg .last .0) ≡ legOn (c .before .before .before .before .before .before .before .before .before .before .before .before .before .args .un) (c .before .before .before .before .before .before .before .before .before .before .step .last .0) (c .before .before .before .before .before .before .before .before .before .before .before .before .before .args .ld) (c .before .before .before .before .before .before .before .before .before .before .before .before .before .args .rd)
+ends : (c : tie.After-walk-leg) → legOut (c .walk-leg .result) (c .walk-leg .last .0)
+    ≡ legOn (c .before .before .before .before .before .before .before .before .before .before .before .before .before .args .un)
+    (c .before .before .before .before .before .before .before .before .before .before .step .last .0)
+    (c .before .before .before .before .before .before .before .before .before .before .before .before .before .args .ld)
+    (c .before .before .before .before .before .before .before .before .before .before .before .before .before .args .rd)
 ends c =
     let at-beta-at = c .before .before .before .before in
     leg-start _ _ _ _ _ _ _ _ _ _ _ _ (at-beta-at .beta-at .ensures) (c .before .before .beta-at2 .ensures) (c .walk-leg .ensures)
 
-goes : (c : tie.After-walk-leg) → Walked (c .before .before .before .before .before .before .before .before .before .before .before .before .before .args .un) (c .before .before .before .before .before .before .before .before .before .before .step .last .0) 1 0 (c .before .before .before .before .beta-at .result) (c .before .before .beta-at2 .result) 0 (legOut (c .walk-leg .result) (c .walk-leg .last .0))
+goes : (c : tie.After-walk-leg) → Walked (c .before .before .before .before .before .before .before .before .before .before .before .before .before
+    .args .un) (c .before .before .before .before .before .before .before .before .before .before .step .last .0) 1 0
+    (c .before .before .before .before .beta-at .result) (c .before .before .beta-at2 .result) 0 (legOut (c .walk-leg .result) (c .walk-leg .last .0))
 goes c =
     let back6 = c .before .before .before .before .before .before in
-    leg-walked _ _ _ _ _ _ _ _ _ _ _ _ (c .walk-leg .ensures) (omega arith) (omega arith) (formed back6) (on-left (c .before .before)) (on-right (c .before .before))
+    leg-walked _ _ _ _ _ _ _ _ _ _ _ _ (c .walk-leg .ensures) (omega arith) (omega arith) (formed back6) (on-left (c .before .before))
+    (on-right (c .before .before))
 
-ready : (c : tie.After-walk-leg) → Inside (darts (c .walk-leg .last .0)) (c .walk-leg .last .0) × (c .before .before .before .before .before .before .before .before .before .before .before .before .before .args .ld < darts (c .walk-leg .last .0)) × (c .before .before .before .before .before .before .before .before .before .before .before .before .before .args .rd < darts (c .walk-leg .last .0))
+ready : (c : tie.After-walk-leg) → Inside (darts (c .walk-leg .last .0)) (c .walk-leg .last .0)
+    × (c .before .before .before .before .before .before .before .before .before .before .before .before .before .args .ld < darts
+    (c .walk-leg .last .0)) × (c .before .before .before .before .before .before .before .before .before .before .before .before .before .args .rd <
+    darts (c .walk-leg .last .0))
 ready c =
     let at-step = c .before .before .before .before .before .before .before .before .before .before in
     let entry = at-step .before .before .before in
     inside-now (entry .args .rows .now) _ _ _ (goes c .long ∙ at-step .step .kept .0) (goes c .formed) (entry .pre .2) (entry .pre .3)
 
 -- the first leg is undone
-again : (c : tie.After-walk-leg) → undone (c .before .before .before .before .before .before .before .before .before .before .before .before .before .args .un) (c .walk-leg .result .steps + 1) (c .walk-leg .last .0) 1 0 (c .before .before .before .before .before .before .before .before .before .before .before .before .before .args .ld) (c .before .before .before .before .before .before .before .before .before .before .before .before .before .args .rd) ≡ c .before .before .before .before .before .before .before .before .before .before .before .before .before .args .rows .now
+again : (c : tie.After-walk-leg) → undone (c .before .before .before .before .before .before .before .before .before .before .before .before .before
+    .args .un) (c .walk-leg .result .steps + 1) (c .walk-leg .last .0) 1 0 (c .before .before .before .before .before .before .before .before .before
+    .before .before .before .before .args .ld) (c .before .before .before .before .before .before .before .before .before .before .before .before
+    .before .args .rd) ≡ c .before .before .before .before .before .before .before .before .before .before .before .before .before .args .rows .now
 again c =
     let back6 = c .before .before .before .before .before .before in
     let entry = back6 .before .before .before .before .before .before .before in
@@ -131,7 +147,8 @@ returns-2 c =
     let back9 = at-is-done2 .before .before .before .before in
     let back15 = back9 .before .before .before .before .before .before in
     let at-step = back15 .before .before .before .before in
-    on-leg-refused _ _ _ _ _ _ _ _ (at-step .step .ensures) (done back15) _ _ (ends back9) _ (sym (at-is-done2 .is-done2 .ensures) ∙ not-true _ (at-if2 .if2 .taken))
+    on-leg-refused _ _ _ _ _ _ _ _ (at-step .step .ensures) (done back15) _ _ (ends back9) _
+    (sym (at-is-done2 .is-done2 .ensures) ∙ not-true _ (at-if2 .if2 .taken))
     (c .before .before .undo-leg .ensures ∙ again back9)
 
 pick-requires : tie.Need-pick-requires
@@ -149,7 +166,8 @@ returns-3 c =
     let back8 = at-is-done2 .before .before .before .before in
     let back14 = back8 .before .before .before .before .before .before in
     let at-step = back14 .before .before .before .before in
-    on-closed _ _ _ _ _ _ _ _ (at-step .step .ensures) (done back14) _ _ (ends back8) _ (c .pick .ensures) (sym (at-is-done2 .is-done2 .ensures) ∙ not-false _ (c .before .before .before .if2 .left)) (c .before .if3 .taken)
+    on-closed _ _ _ _ _ _ _ _ (at-step .step .ensures) (done back14) _ _ (ends back8) _ (c .pick .ensures)
+    (sym (at-is-done2 .is-done2 .ensures) ∙ not-false _ (c .before .before .before .if2 .left)) (c .before .if3 .taken)
 
 undo-leg-requires-2 : tie.Need-undo-leg-requires-2
 undo-leg-requires-2 c κs =
@@ -172,7 +190,8 @@ returns-4 c =
     let back13 = at-is-done2 .before .before .before .before in
     let back19 = back13 .before .before .before .before .before .before in
     let at-step = back19 .before .before .before .before in
-    on-uneven _ _ _ _ _ _ _ _ (at-step .step .ensures) (done back19) _ _ (ends back13) _ (sym (at-is-done2 .is-done2 .ensures) ∙ not-false _ (at-if2 .if2 .left)) (at-if3 .if3 .left) (at-if4 .if4 .taken)
+    on-uneven _ _ _ _ _ _ _ _ (at-step .step .ensures) (done back19) _ _ (ends back13) _ (sym (at-is-done2 .is-done2 .ensures)
+    ∙ not-false _ (at-if2 .if2 .left)) (at-if3 .if3 .left) (at-if4 .if4 .taken)
     (c .before .before .undo-leg2 .ensures ∙ again back13)
 
 back-requires : tie.Need-back-requires
@@ -198,8 +217,10 @@ returns-5 c =
     let at-step = back19 .before .before .before .before in
     let entry = at-step .before .before .before in
     c .before .before .back .ensures
-    ∙ ap (λ (x : List ℕ). lastLeg (cond (entry .args .un) (entry .args .rd) 0) x (legBack (entry .args .un) (at-walk-leg .walk-leg .last .0) (entry .args .ld) (entry .args .rd))) (again at-walk-leg)
-    ∙ on-back _ _ _ _ _ _ _ _ (at-step .step .ensures) (done back19) _ _ (ends at-walk-leg) (sym (at-is-done2 .is-done2 .ensures) ∙ not-false _ (at-if2 .if2 .left)) (at-if3 .if3 .left) (at-if4 .if4 .left)
+    ∙ ap (λ (x : List ℕ). lastLeg (cond (entry .args .un) (entry .args .rd) 0) x (legBack (entry .args .un) (at-walk-leg .walk-leg .last .0)
+    (entry .args .ld) (entry .args .rd))) (again at-walk-leg)
+    ∙ on-back _ _ _ _ _ _ _ _ (at-step .step .ensures) (done back19) _ _ (ends at-walk-leg)
+    (sym (at-is-done2 .is-done2 .ensures) ∙ not-false _ (at-if2 .if2 .left)) (at-if3 .if3 .left) (at-if4 .if4 .left)
 
 pub three-on-spec : {M : Type 1} → statement M
 three-on-spec =

@@ -11,7 +11,8 @@ use Rattle.link_walk.proofs.UndoLaws.{back-inside, back-next, undone-no
 use Rattle.link_walk.proofs.walk.undo_leg.Statement.{statement}
 
 abbrev Inv-loop : tie.InvT-loop
-Inv-loop rows₀ un i j l0 r0 steps l₀ r₀ left₀ rows l r left = Inside (darts rows₀) rows × (l < darts rows₀) × (r < darts rows₀) × (undone un left rows i j l r ≡ undone un steps rows₀ i j l0 r0)
+Inv-loop rows₀ un i j l0 r0 steps l₀ r₀ left₀ rows l r left = Inside (darts rows₀) rows × (l < darts rows₀) × (r < darts rows₀)
+    × (undone un left rows i j l r ≡ undone un steps rows₀ i j l0 r0)
 
 abbrev μ-loop : tie.MeasureT-loop
 μ-loop rows₀ un i j l0 r0 steps l₀ r₀ left₀ rows l r left = left
@@ -62,10 +63,13 @@ loop-again c =
     let at-loop = at-loop-test .before in
     let entry = at-loop .before .before in
     let v = at-loop .loop .inv in (
-      back-inside (entry .args .un) _ _ _ _ _ _ _ (at-pick .pick .ensures) (c .before .before .before .pick2 .ensures) (at-set-beta .set-beta .ensures) (c .before .before .set-beta2 .ensures) _ (v .0) (v .1) (v .2),
+      back-inside (entry .args .un) _ _ _ _ _ _ _ (at-pick .pick .ensures) (c .before .before .before .pick2 .ensures)
+          (at-set-beta .set-beta .ensures) (c .before .before .set-beta2 .ensures) _ (v .0) (v .1) (v .2),
       rw (at-beta-at .beta-at .ensures) (v .0 .below _),
       rw (at-beta-at2 .beta-at2 .ensures) (v .0 .below _),
-      back-next _ _ _ _ _ _ _ _ (at-pick .pick .ensures) (c .before .before .before .pick2 .ensures) (at-set-beta .set-beta .ensures) (c .before .before .set-beta2 .ensures) _ _ _ _ _ (omega (arith, at-loop-test .loop-test .taken)) (at-beta-at .beta-at .ensures) (at-beta-at2 .beta-at2 .ensures)
+      back-next _ _ _ _ _ _ _ _ (at-pick .pick .ensures) (c .before .before .before .pick2 .ensures) (at-set-beta .set-beta .ensures)
+          (c .before .before .set-beta2 .ensures) _ _ _ _ _ (omega (arith, at-loop-test .loop-test .taken)) (at-beta-at .beta-at .ensures)
+          (at-beta-at2 .beta-at2 .ensures)
           ∙ v .3,
     )
 

@@ -35,7 +35,8 @@ same-length : tie.Need-same-length Inv-loop μ-loop
 same-length c = c .before .before .before .loop .inv .1
 
 returns : tie.Need-returns Inv-loop μ-loop
-returns c = leg-same _ _ _ (c .leg-at .ensures) ∙ walk-stop _ _ _ _ _ _ _ _ _ (omega (arith, c .before .before .before .loop .inv .5 .1)) (c .before .if1 .taken) ∙ c .before .before .before .loop .inv .5 .2
+returns c = leg-same _ _ _ (c .leg-at .ensures) ∙ walk-stop _ _ _ _ _ _ _ _ _ (omega (arith, c .before .before .before .loop .inv .5 .1))
+    (c .before .if1 .taken) ∙ c .before .before .before .loop .inv .5 .2
 
 step-requires : tie.Need-step-requires Inv-loop μ-loop
 step-requires c κs = (c .before .before .before .loop .inv .0, c .before .before .before .loop .inv .2, c .before .before .before .loop .inv .3)
@@ -91,7 +92,8 @@ loop-less c =
     let at-loop-test = at-step .before .before .before in
     let at-loop = at-loop-test .before in
     let v = at-loop .loop .inv in
-    turn _ _ _ _ _ _ _ _ (v .0) (v .2) (v .3) (at-loop-test .loop-test .taken) (at-step .step .ensures) (sym (at-is-done .is-done .ensures) ∙ not-false _ (at-if2 .if2 .left)) .2
+    turn _ _ _ _ _ _ _ _ (v .0) (v .2) (v .3) (at-loop-test .loop-test .taken) (at-step .step .ensures)
+    (sym (at-is-done .is-done .ensures) ∙ not-false _ (at-if2 .if2 .left)) .2
 
 loop-again : tie.Need-loop-again Inv-loop μ-loop
 loop-again c =
@@ -112,7 +114,8 @@ loop-again c =
       (
         v .5 .0 - 1,
         omega (arith, v .5 .1, t .2),
-        sym (walk-next _ _ _ _ _ _ _ _ _ (omega (arith, v .5 .1)) (at-loop-test .loop-test .taken) (at-if1 .if1 .left) _ _ (at-step .step .ensures) _ _ d (c .before .before .beta-at .ensures) (c .beta-at2 .ensures))
+        sym (walk-next _ _ _ _ _ _ _ _ _ (omega (arith, v .5 .1)) (at-loop-test .loop-test .taken) (at-if1 .if1 .left) _ _ (at-step .step .ensures) _
+            _ d (c .before .before .beta-at .ensures) (c .beta-at2 .ensures))
             ∙ v .5 .2,
       ),
     )
@@ -124,7 +127,8 @@ same-length-3 : tie.Need-same-length-3 Inv-loop μ-loop
 same-length-3 c = c .before .before .loop .inv .1
 
 returns-3 : tie.Need-returns-3 Inv-loop μ-loop
-returns-3 c = leg-same _ _ _ (c .leg-at3 .ensures) ∙ walk-null _ _ _ _ _ _ _ _ _ (omega (arith, c .before .before .loop .inv .5 .1)) (c .before .loop-test .left) ∙ c .before .before .loop .inv .5 .2
+returns-3 c = leg-same _ _ _ (c .leg-at3 .ensures) ∙ walk-null _ _ _ _ _ _ _ _ _ (omega (arith, c .before .before .loop .inv .5 .1))
+    (c .before .loop-test .left) ∙ c .before .before .loop .inv .5 .2
 
 pub walk-leg-spec : {M : Type 1} → statement M
 walk-leg-spec =

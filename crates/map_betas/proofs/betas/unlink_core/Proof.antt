@@ -34,7 +34,8 @@ returns-2 : tie.Need-returns-2
 returns-2 c =
     let at-set-beta = c .before .before .before .before .before .before .before in
     let at-beta-at = at-set-beta .before .before .before in
-    unlink-done _ _ _ _ _ _ _ (c .before .before .before .opp-of .ensures) (at-beta-at .beta-at .ensures) (omega arith) (at-set-beta .set-beta .ensures) (c .before .before .set-beta2 .ensures)
+    unlink-done _ _ _ _ _ _ _ (c .before .before .before .opp-of .ensures) (at-beta-at .beta-at .ensures) (omega arith)
+    (at-set-beta .set-beta .ensures) (c .before .before .set-beta2 .ensures)
 
 pub unlink-core-spec : {M : Type 1} → statement M
 unlink-core-spec =

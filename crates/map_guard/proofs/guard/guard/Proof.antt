@@ -22,7 +22,8 @@ returns c = stops _ _ _ (c .before .before .size-test .ensures) (sym (c .before 
 loan-test-requires : tie.Need-loan-test-requires
 loan-test-requires c κs =
     let entry = c .before .before .before .before in
-    size-done (entry .args .rows .now) (ap isDone (sym (c .before .before .size-test .ensures)) ∙ sym (c .before .is-done .ensures) ∙ not-false _ (c .if1 .left)) .few
+    size-done (entry .args .rows .now) (ap isDone (sym (c .before .before .size-test .ensures)) ∙ sym (c .before .is-done .ensures)
+    ∙ not-false _ (c .if1 .left)) .few
 
 is-done-requires-2 : tie.Need-is-done-requires-2
 is-done-requires-2 c κs = search needs

@@ -29,7 +29,8 @@ beta-at-requires c κs =
 returns-2 : tie.Need-returns-2
 unfolding betaRead
 returns-2 c =
-    ap (λ x. Done x 0) (c .beta-at .ensures) ∙ goes-on _ _ _ (c .before .before .before .read-test .ensures) (sym (c .before .before .is-done .ensures) ∙ not-false _ (c .before .if1 .left))
+    ap (λ x. Done x 0) (c .beta-at .ensures) ∙ goes-on _ _ _ (c .before .before .before .read-test .ensures)
+    (sym (c .before .before .is-done .ensures) ∙ not-false _ (c .before .if1 .left))
 
 pub beta-spec : {M : Type 1} → statement M
 beta-spec =

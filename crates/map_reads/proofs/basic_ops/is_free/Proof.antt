@@ -21,7 +21,8 @@ unfolding isFree
 returns c = stops _ _ _ (c .before .before .read-test .ensures) (sym (c .before .is-done .ensures) ∙ not-true _ (c .if1 .taken))
 
 free-at-requires : tie.Need-free-at-requires
-free-at-requires c κs = read-inside _ 0 _ (ap isDone (sym (c .before .before .read-test .ensures)) ∙ sym (c .before .is-done .ensures) ∙ not-false _ (c .if1 .left)) .1
+free-at-requires c κs = read-inside _ 0 _ (ap isDone (sym (c .before .before .read-test .ensures)) ∙ sym (c .before .is-done .ensures)
+    ∙ not-false _ (c .if1 .left)) .1
 
 yes-of-requires : tie.Need-yes-of-requires
 yes-of-requires c κs = search needs

@@ -21,7 +21,8 @@ map-test-requires : tie.Need-map-test-requires
 map-test-requires c κs = size-done _ (ap isDone (sym (c .before .before .size-test .ensures)) ∙ sym (c .before .is-done .ensures) ∙ not-false _ (c .if1 .left))
 
 returns-2 : tie.Need-returns-2
-returns-2 c = c .map-test .ensures ∙ goes-on _ _ _ (c .before .before .before .size-test .ensures) (sym (c .before .before .is-done .ensures) ∙ not-false _ (c .before .if1 .left))
+returns-2 c = c .map-test .ensures ∙ goes-on _ _ _ (c .before .before .before .size-test .ensures)
+    (sym (c .before .before .is-done .ensures) ∙ not-false _ (c .before .if1 .left))
 
 pub check-map-spec : {M : Type 1} → statement M
 check-map-spec =

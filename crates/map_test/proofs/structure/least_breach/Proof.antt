@@ -15,7 +15,8 @@ breaks-at-requires-2 : tie.Need-breaks-at-requires-2
 breaks-at-requires-2 c κs = search needs
 
 returns-2 : tie.Need-returns-2
-returns-2 c = breach-1 _ _ (sym (c .before .before .before .breaks-at .ensures) ∙ c .before .before .if1 .left) (sym (c .before .breaks-at2 .ensures) ∙ c .if2 .taken)
+returns-2 c = breach-1 _ _ (sym (c .before .before .before .breaks-at .ensures) ∙ c .before .before .if1 .left)
+    (sym (c .before .breaks-at2 .ensures) ∙ c .if2 .taken)
 
 breaks-at-requires-3 : tie.Need-breaks-at-requires-3
 breaks-at-requires-3 c κs = search needs
@@ -24,7 +25,8 @@ returns-3 : tie.Need-returns-3
 returns-3 c =
     let at-if1 = c .before .before .before .before in
     let at-breaks-at = at-if1 .before in
-    breach-2 _ _ (sym (at-breaks-at .breaks-at .ensures) ∙ at-if1 .if1 .left) (sym (c .before .before .before .breaks-at2 .ensures) ∙ c .before .before .if2 .left)
+    breach-2 _ _ (sym (at-breaks-at .breaks-at .ensures) ∙ at-if1 .if1 .left) (sym (c .before .before .before .breaks-at2 .ensures)
+    ∙ c .before .before .if2 .left)
     (sym (c .before .breaks-at3 .ensures) ∙ c .if3 .taken)
 
 breaks-at-requires-4 : tie.Need-breaks-at-requires-4

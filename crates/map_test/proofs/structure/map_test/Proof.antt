@@ -34,7 +34,13 @@ loop-holds c = (
 )
 
 breach-at-requires : tie.Need-breach-at-requires Inv-loop μ-loop
-breach-at-requires c κs = (c .before .loop .inv .0 .whole, c .before .loop .inv .5, c .before .loop .inv .4, omega (arith, c .before .loop .inv .1, c .loop-test .taken))
+breach-at-requires c κs = (
+  c .before .loop .inv .0 .whole,
+  c .before .loop .inv .5,
+  c .before .loop .inv .4,
+  omega
+      (arith, c .before .loop .inv .1, c .loop-test .taken),
+)
 
 returns-2 : tie.Need-returns-2 Inv-loop μ-loop
 returns-2 c = first-hit _ _ _ _ (omega arith) (c .before .breach-at .ensures) (c .if2 .taken) ∙ sym (c .before .before .before .loop .inv .3)

@@ -1,4 +1,5 @@
--- `structure::sides_lead_back` meets its contract: where it says yes, each of the two images is null or leads back to a dart other than itself. Assumes nothing.
+-- `structure::sides_lead_back` meets its contract: where it says yes, each of the two images is null or leads back to a dart other than itself. Assumes
+-- nothing.
 use native.Mathlib.Omega.{arith}
 use mathlib.Core.Path.{sym}
 use mathlib.Core.Bool.{true≢false}
@@ -35,14 +36,16 @@ returns-4 c e = absurd (true≢false (sym e))
 returns-5 : tie.Need-returns-5
 returns-5 c e =
     let p = c .before .before .before .before .before .before .pre in (
-      keeps-led _ 2 _ _ _ (p .2) (c .before .before .before .before .beta-at .ensures) (p .4) (omega (arith, p .1)) (c .before .before .if1 .left) (λ l. c .before .if4 .left),
+      keeps-led _ 2 _ _ _ (p .2) (c .before .before .before .before .beta-at .ensures) (p .4) (omega (arith, p .1)) (c .before .before .if1 .left)
+          (λ l. c .before .if4 .left),
       keeps-none _ 3 _ _ (p .3) (p .5) (eqb-true _ _ e),
     )
 
 returns-6 : tie.Need-returns-6
 returns-6 c e =
     let p = c .before .before .before .before .before .before .pre in (
-      keeps-led _ 2 _ _ _ (p .2) (c .before .before .before .before .beta-at .ensures) (p .4) (omega (arith, p .1)) (c .before .before .if1 .left) (λ l. c .before .if4 .left),
+      keeps-led _ 2 _ _ _ (p .2) (c .before .before .before .before .beta-at .ensures) (p .4) (omega (arith, p .1)) (c .before .before .if1 .left)
+          (λ l. c .before .if4 .left),
       keeps-led _ 3 _ _ _ (p .3) (c .before .before .before .beta-at2 .ensures) (p .5) (omega (arith, p .1)) (c .if5 .left) (λ l. eqb-false _ _ (not-true _ e)),
     )
 

@@ -34,15 +34,19 @@ loop-again c =
     let entry = c .before .before .before .before in (
       omega arith,
       omega arith,
-      ⊎-elim (λ w. omega (arith, w .1, c .before .before .before .loop .inv .2)) (λ w. omega (arith, w .1, c .before .before .before .loop .inv .2)) (c .if1 .came),
+      ⊎-elim (λ w. omega (arith, w .1, c .before .before .before .loop .inv .2)) (λ w. omega (arith, w .1, c .before .before .before .loop .inv .2))
+          (c .if1 .came),
       ⊎-elim
-          (λ w. w .1 ∙ used-yes (entry .args .flags .now) (c .before .before .before .loop .d) (c .before .before .before .loop .used) (c .before .before .before .loop .inv .0) (c .before .before .before .loop .inv .3) (w .0 .taken))
-          (λ w. w .1 ∙ used-no (entry .args .flags .now) (c .before .before .before .loop .d) (c .before .before .before .loop .used) (c .before .before .before .loop .inv .0) (c .before .before .before .loop .inv .3) (w .0 .left))
+          (λ w. w .1 ∙ used-yes (entry .args .flags .now) (c .before .before .before .loop .d) (c .before .before .before .loop .used)
+          (c .before .before .before .loop .inv .0) (c .before .before .before .loop .inv .3) (w .0 .taken))
+          (λ w. w .1 ∙ used-no (entry .args .flags .now) (c .before .before .before .loop .d) (c .before .before .before .loop .used)
+          (c .before .before .before .loop .inv .0) (c .before .before .before .loop .inv .3) (w .0 .left))
           (c .if1 .came),
     )
 
 returns : tie.Need-returns Inv-loop μ-loop
-returns c = let e : c .before .loop .d ≡ c .before .before .args .n = omega arith in (c .before .loop .inv .3 ∙ ap (λ (k : ℕ). usedUpTo (c .before .before .args .flags .now) (k - 1)) e, omega arith)
+returns c = let e : c .before .loop .d ≡ c .before .before .args .n =
+    omega arith in (c .before .loop .inv .3 ∙ ap (λ (k : ℕ). usedUpTo (c .before .before .args .flags .now) (k - 1)) e, omega arith)
 
 pub count-used-spec : {M : Type 1} → statement M
 count-used-spec =

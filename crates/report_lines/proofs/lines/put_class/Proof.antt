@@ -16,13 +16,19 @@ slice-relend-prefix-cells-core c = search needs
 slice-aggregate-cells-core : tie.Need-slice-aggregate-cells-core
 slice-aggregate-cells-core c =
     let entry = c .before .before .before .before .before .before .before .before .before .before .before .before in
-    sym (wiped-n (darts (entry .args .rows .now)) (entry .args .marks .now) (c .before .before .before .wipe-marks .last .0) (c .before .before .before .wipe-marks .ensures))
+    sym (wiped-n (darts (entry .args .rows .now)) (entry .args .marks .now) (c .before .before .before .wipe-marks .last .0)
+    (c .before .before .before .wipe-marks .ensures))
 
 cells-core-requires : tie.Need-cells-core-requires
 cells-core-requires c κs =
     let at-wipe-marks = c .before .before .before .before .before in
     let entry = at-wipe-marks .before .before .before .before .before .before .before .before .before in (
-      record { formed = entry .pre .0; marks-n = wiped-n (darts (entry .args .rows .now)) (entry .args .marks .now) (at-wipe-marks .wipe-marks .last .0) (at-wipe-marks .wipe-marks .ensures); queue-n = entry .pre .3 },
+      record {
+        formed = entry .pre .0;
+        marks-n = wiped-n (darts (entry .args .rows .now)) (entry .args .marks .now) (at-wipe-marks .wipe-marks .last .0)
+            (at-wipe-marks .wipe-marks .ensures);
+        queue-n = entry .pre .3;
+      },
       entry .pre .4,
       entry .pre .5,
       wiped-zero (darts (entry .args .rows .now)) (entry .args .marks .now) (at-wipe-marks .wipe-marks .last .0) (at-wipe-marks .wipe-marks .ensures),
@@ -33,7 +39,8 @@ put-line-requires c κs =
     let at-cells-core = c .before .before .before .before .before .before .before .before in
     let entry = at-cells-core .before .before .before .before .before .before .before .before .before .before .before .before .before .before .before in (
       listed-count _ _ _ _ (at-cells-core .cells-core .ensures .2),
-      class-fits (entry .args .name .now) (entry .args .class) (entry .args .rows .now) (entry .args .flags .now) _ _ _ _ _ (entry .pre .0 .sized .some) (entry .pre .1) (at-cells-core .cells-core .ensures .2) (entry .pre .6),
+      class-fits (entry .args .name .now) (entry .args .class) (entry .args .rows .now) (entry .args .flags .now) _ _ _ _ _ (entry .pre .0 .sized .some)
+          (entry .pre .1) (at-cells-core .cells-core .ensures .2) (entry .pre .6),
     )
 
 same-length : tie.Need-same-length
@@ -52,8 +59,21 @@ returns : tie.Need-returns
 returns c =
     let at-cells-core = c .before .before .before .before .before .before .before .before .before .before .before in
     let at-wipe-marks = at-cells-core .before .before .before .before .before .before in
-    let entry = at-wipe-marks .before .before .before .before .before .before .before .before .before in
-    ((class-is (entry .args .name .now) (entry .args .class) (entry .args .rows .now) (entry .args .flags .now) _ _ _ _ _ _ _ (at-cells-core .cells-core .ensures .2) (c .before .before .put-line .ensures), class-next (entry .args .name .now) (entry .args .class) (entry .args .rows .now) (entry .args .flags .now) _ _ _ _ (entry .pre .0 .sized .some) (entry .pre .1) (class-is (entry .args .name .now) (entry .args .class) (entry .args .rows .now) (entry .args .flags .now) _ _ _ _ _ _ _ (at-cells-core .cells-core .ensures .2) (c .before .before .put-line .ensures))), (wiped-lent (darts (entry .args .rows .now)) (entry .args .marks .now) _ (at-wipe-marks .wipe-marks .ensures) _ (at-cells-core .cells-core .ensures .0), at-cells-core .cells-core .ensures .1, at-cells-core .cells-core .ensures .2 .places))
+    let entry = at-wipe-marks .before .before .before .before .before .before .before .before .before in (
+      (
+        class-is (entry .args .name .now) (entry .args .class) (entry .args .rows .now) (entry .args .flags .now) _ _ _ _ _ _ _
+            (at-cells-core .cells-core .ensures .2) (c .before .before .put-line .ensures),
+        class-next (entry .args .name .now) (entry .args .class) (entry .args .rows .now) (entry .args .flags .now) _ _ _ _ (entry .pre .0 .sized .some)
+            (entry .pre .1) (class-is (entry .args .name .now) (entry .args .class) (entry .args .rows .now) (entry .args .flags .now) _ _ _ _ _ _ _
+            (at-cells-core .cells-core .ensures .2) (c .before .before .put-line .ensures)),
+      ),
+      (
+        wiped-lent (darts (entry .args .rows .now)) (entry .args .marks .now) _ (at-wipe-marks .wipe-marks .ensures) _
+            (at-cells-core .cells-core .ensures .0),
+        at-cells-core .cells-core .ensures .1,
+        at-cells-core .cells-core .ensures .2 .places,
+      ),
+    )
 
 pub put-class-spec : {M : Type 1} → statement M
 put-class-spec =

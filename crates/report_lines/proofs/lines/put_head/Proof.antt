@@ -25,14 +25,30 @@ put-bytes-requires-2 c κs =
     let at-put-value = c .before .before .before .before in
     let at-put-bytes = at-put-value .before .before .before .before in
     let entry = at-put-bytes .before .before .before .before in
-    omega (arith, entry .pre, lay-next _ _ _ _ _ (at-put-bytes .put-bytes .ensures), at-put-bytes .put-bytes .kept .0, at-put-value .put-value .ensures .1, at-put-value .put-value .kept .0)
+    omega (
+      arith,
+      entry .pre,
+      lay-next _ _ _ _ _ (at-put-bytes .put-bytes .ensures),
+      at-put-bytes .put-bytes .kept .0,
+      at-put-value .put-value .ensures .1,
+      at-put-value .put-value .kept .0,
+    )
 
 put-value-requires-2 : tie.Need-put-value-requires-2
 put-value-requires-2 c κs =
     let at-put-value = c .before .before .before .before .before .before .before .before in
     let at-put-bytes = at-put-value .before .before .before .before in
     let entry = at-put-bytes .before .before .before .before in
-    omega (arith, entry .pre, lay-next _ _ _ _ _ (at-put-bytes .put-bytes .ensures), at-put-bytes .put-bytes .kept .0, at-put-value .put-value .ensures .1, at-put-value .put-value .kept .0, lay-next _ _ _ _ _ (c .before .before .before .put-bytes2 .ensures), c .before .before .before .put-bytes2 .kept .0)
+    omega (
+      arith,
+      entry .pre,
+      lay-next _ _ _ _ _ (at-put-bytes .put-bytes .ensures),
+      at-put-bytes .put-bytes .kept .0,
+      at-put-value .put-value .ensures .1,
+      at-put-value .put-value .kept .0,
+      lay-next _ _ _ _ _ (c .before .before .before .put-bytes2 .ensures),
+      c .before .before .before .put-bytes2 .kept .0,
+    )
 
 put-byte-requires : tie.Need-put-byte-requires
 put-byte-requires c κs =
@@ -40,7 +56,18 @@ put-byte-requires c κs =
     let at-put-value = at-put-bytes2 .before .before .before .before .before in
     let at-put-bytes = at-put-value .before .before .before .before in
     let entry = at-put-bytes .before .before .before .before in
-    omega (arith, entry .pre, lay-next _ _ _ _ _ (at-put-bytes .put-bytes .ensures), at-put-bytes .put-bytes .kept .0, at-put-value .put-value .ensures .1, at-put-value .put-value .kept .0, lay-next _ _ _ _ _ (at-put-bytes2 .put-bytes2 .ensures), at-put-bytes2 .put-bytes2 .kept .0, c .before .before .before .put-value2 .ensures .1, c .before .before .before .put-value2 .kept .0)
+    omega (
+      arith,
+      entry .pre,
+      lay-next _ _ _ _ _ (at-put-bytes .put-bytes .ensures),
+      at-put-bytes .put-bytes .kept .0,
+      at-put-value .put-value .ensures .1,
+      at-put-value .put-value .kept .0,
+      lay-next _ _ _ _ _ (at-put-bytes2 .put-bytes2 .ensures),
+      at-put-bytes2 .put-bytes2 .kept .0,
+      c .before .before .before .put-value2 .ensures .1,
+      c .before .before .before .put-value2 .kept .0,
+    )
 
 same-length : tie.Need-same-length
 same-length c = search needs
@@ -51,8 +78,23 @@ returns c =
     let at-put-bytes2 = at-put-value2 .before .before .before .before in
     let at-put-value = at-put-bytes2 .before .before .before .before .before in
     let at-put-bytes = at-put-value .before .before .before .before in
-    let entry = at-put-bytes .before .before .before .before in
-    (head-is (entry .args .n) (entry .args .used) _ _ _ _ _ _ _ _ _ _ _ _ (at-put-value .put-value .ensures .1) (at-put-value2 .put-value2 .ensures .1) (entry .pre) (at-put-bytes .put-bytes .ensures) (at-put-value .put-value .ensures .0) (at-put-bytes2 .put-bytes2 .ensures) (at-put-value2 .put-value2 .ensures .0) (c .before .before .put-byte .ensures), omega (arith, lay-next _ _ _ _ _ (at-put-bytes .put-bytes .ensures), at-put-bytes .put-bytes .kept .0, at-put-value .put-value .ensures .1, at-put-value .put-value .kept .0, lay-next _ _ _ _ _ (at-put-bytes2 .put-bytes2 .ensures), at-put-bytes2 .put-bytes2 .kept .0, at-put-value2 .put-value2 .ensures .1, at-put-value2 .put-value2 .kept .0, lay-next _ _ _ _ _ (c .before .before .put-byte .ensures)))
+    let entry = at-put-bytes .before .before .before .before in (
+      head-is (entry .args .n) (entry .args .used) _ _ _ _ _ _ _ _ _ _ _ _ (at-put-value .put-value .ensures .1) (at-put-value2 .put-value2 .ensures .1)
+          (entry .pre) (at-put-bytes .put-bytes .ensures) (at-put-value .put-value .ensures .0) (at-put-bytes2 .put-bytes2 .ensures)
+          (at-put-value2 .put-value2 .ensures .0) (c .before .before .put-byte .ensures),
+      omega (
+        arith,
+        lay-next _ _ _ _ _ (at-put-bytes .put-bytes .ensures),
+        at-put-bytes .put-bytes .kept .0,
+        at-put-value .put-value .ensures .1,
+        at-put-value .put-value .kept .0,
+        lay-next _ _ _ _ _ (at-put-bytes2 .put-bytes2 .ensures),
+        at-put-bytes2 .put-bytes2 .kept .0,
+        at-put-value2 .put-value2 .ensures .1,
+        at-put-value2 .put-value2 .kept .0,
+        lay-next _ _ _ _ _ (c .before .before .put-byte .ensures),
+      ),
+    )
 
 pub put-head-spec : {M : Type 1} → statement M
 put-head-spec =

@@ -15,7 +15,10 @@ use Rattle.report_whole.proofs.report.report_text.Tie as tie
 passed : (c : tie.Else2) → isDone (c .before .before .before .before .before .before .before .before .before .before .read-within .result) ≡ true
 passed c = sym (c .before .is-done .ensures) ∙ not-false _ (c .if2 .left)
 
-got : (c : tie.Else2) → Accepted 1024 (c .before .before .before .before .before .before .before .before .before .before .before .before .before .before .before .before .before .before .before .before .before .before .before .before .before .args .bytes .now) (c .before .before .before .before .before .before .before .before .before .before .before .before .before .before .before .before .before .before .before .before .before .before .before .before .before .args .flags .now) (c .before .before .before .before .before .before .before .before .before .before .before .before .before .before .before .before .before .before .before .before .before .before .before .before .before .args .vertices .now) (c .before .before .before .before .before .before .before .before .before .before .before .before .before .before .before .before .before .before .before .before .before .before .before .before .before .args .coordinates .now) (c .before .before .before .before .before .before .before .before .before .before .before .before .before .before .before .before .before .before .before .before .before .before .before .before .before .args .rows .now)
+got : (c : tie.Else2) →
+    let read = c .before .before .before .before .before .before .before .before .before .before in
+    let a = read .before .before .before .before .before .before .before .before .before .before .before .before .before .before .before .args in
+    Accepted 1024 (a .bytes .now) (a .flags .now) (a .vertices .now) (a .coordinates .now) (a .rows .now)
 got c =
     let at-read-within = c .before .before .before .before .before .before .before .before .before .before in
     let entry = at-read-within .before .before .before .before .before .before .before .before .before .before .before .before .before .before .before in
@@ -30,8 +33,14 @@ same-length c = search needs
 returns : tie.Need-returns
 returns c =
     let at-if1 = c .before .before .before .before in
-    let entry = at-if1 .before .before .before .before .before .before .before .before .before .before in
-    ((c .before .before .put-refusal .ensures .0 ∙ ap (lay (entry .args .text .now) 0) (more-is (entry .args .bytes .now) (entry .args .more) (at-if1 .if1 .taken)), omega (arith, c .before .before .put-refusal .ensures .1)), left-more (entry .args .bytes .now) (entry .args .more) (at-if1 .if1 .taken) _ _ _ _ _ _ _)
+    let entry = at-if1 .before .before .before .before .before .before .before .before .before .before in (
+      (
+        c .before .before .put-refusal .ensures .0
+            ∙ ap (lay (entry .args .text .now) 0) (more-is (entry .args .bytes .now) (entry .args .more) (at-if1 .if1 .taken)),
+        omega (arith, c .before .before .put-refusal .ensures .1),
+      ),
+      left-more (entry .args .bytes .now) (entry .args .more) (at-if1 .if1 .taken) _ _ _ _ _ _ _,
+    )
 
 read-within-requires : tie.Need-read-within-requires
 read-within-requires c κs = search needs
@@ -63,8 +72,18 @@ returns-2 c =
     let at-is-done = at-if2 .before in
     let at-read-within = at-is-done .before .before .before .before .before .before .before .before .before in
     let at-if1 = at-read-within .before .before .before .before .before in
-    let entry = at-if1 .before .before .before .before .before .before .before .before .before .before in
-    ((c .before .before .put-refusal2 .ensures .0 ∙ ap (lay (entry .args .text .now) 0) (refused-is _ _ _ _ _ (entry .pre .0) (entry .pre .1) (entry .pre .2) (entry .pre .3) _ _ _ _ _ (at-read-within .read-within .ensures) (entry .args .more) (at-if1 .if1 .left) (sym (at-is-done .is-done .ensures) ∙ not-true _ (at-if2 .if2 .taken))), omega (arith, c .before .before .put-refusal2 .ensures .1)), left-refused _ _ _ _ _ (entry .pre .0) (entry .pre .1) (entry .pre .2) (entry .pre .3) _ _ _ _ _ (at-read-within .read-within .ensures) (entry .args .more) (at-if1 .if1 .left) (sym (at-is-done .is-done .ensures) ∙ not-true _ (at-if2 .if2 .taken)) _ _ _)
+    let entry = at-if1 .before .before .before .before .before .before .before .before .before .before in (
+      (
+        c .before .before .put-refusal2 .ensures .0
+            ∙ ap (lay (entry .args .text .now) 0)
+            (refused-is _ _ _ _ _ (entry .pre .0) (entry .pre .1) (entry .pre .2) (entry .pre .3) _ _ _ _ _ (at-read-within .read-within .ensures)
+            (entry .args .more) (at-if1 .if1 .left) (sym (at-is-done .is-done .ensures) ∙ not-true _ (at-if2 .if2 .taken))),
+        omega (arith, c .before .before .put-refusal2 .ensures .1),
+      ),
+      left-refused _ _ _ _ _ (entry .pre .0) (entry .pre .1) (entry .pre .2) (entry .pre .3)
+          _ _ _ _ _ (at-read-within .read-within .ensures) (entry .args .more) (at-if1 .if1 .left)
+          (sym (at-is-done .is-done .ensures) ∙ not-true _ (at-if2 .if2 .taken)) _ _ _,
+    )
 
 word-at-requires : tie.Need-word-at-requires
 word-at-requires c κs = omega (arith, got c .image .header .whole)
@@ -84,7 +103,8 @@ slice-aggregate-put-map : tie.Need-slice-aggregate-put-map
 slice-aggregate-put-map c =
     let at-read-within = c .before .before .before .before .before .before .before .before .before .before .before .before in
     let entry = at-read-within .before .before .before .before .before .before .before .before .before .before .before .before .before .before .before in
-    sym (rows-n _ _ _ _ _ (entry .pre .0) (entry .pre .1) (entry .pre .2) (entry .pre .3) _ _ _ _ _ (at-read-within .read-within .ensures) (passed (c .before .before)) (c .before .word-at .result) (c .before .word-at .ensures) ∙ ap (λ (k : ℕ). 4 * k) (sym (c .before .word-at .ensures)))
+    sym (rows-n _ _ _ _ _ (entry .pre .0) (entry .pre .1) (entry .pre .2) (entry .pre .3) _ _ _ _ _ (at-read-within .read-within .ensures)
+    (passed (c .before .before)) (c .before .word-at .result) (c .before .word-at .ensures) ∙ ap (λ (k : ℕ). 4 * k) (sym (c .before .word-at .ensures)))
 
 slice-reshare-prefix-put-map-2 : tie.Need-slice-reshare-prefix-put-map-2
 slice-reshare-prefix-put-map-2 c =
@@ -95,7 +115,9 @@ slice-aggregate-put-map-2 : tie.Need-slice-aggregate-put-map-2
 slice-aggregate-put-map-2 c =
     let at-read-within = c .before .before .before .before .before .before .before .before .before .before .before .before .before in
     let entry = at-read-within .before .before .before .before .before .before .before .before .before .before .before .before .before .before .before in
-    sym (flags-n _ _ _ _ _ (entry .pre .0) (entry .pre .1) (entry .pre .2) (entry .pre .3) _ _ _ _ _ (at-read-within .read-within .ensures) (passed (c .before .before .before)) (c .before .before .word-at .result) (c .before .before .word-at .ensures) ∙ sym (c .before .before .word-at .ensures))
+    sym (flags-n _ _ _ _ _ (entry .pre .0) (entry .pre .1) (entry .pre .2) (entry .pre .3) _ _ _ _ _ (at-read-within .read-within .ensures)
+    (passed (c .before .before .before)) (c .before .before .word-at .result) (c .before .before .word-at .ensures)
+    ∙ sym (c .before .before .word-at .ensures))
 
 put-map-requires : tie.Need-put-map-requires
 put-map-requires c κs =
@@ -103,12 +125,24 @@ put-map-requires c κs =
     let back7 = at-word-at .before in
     let at-read-within = back7 .before .before .before .before .before .before .before .before .before .before in
     let entry = at-read-within .before .before .before .before .before .before .before .before .before .before .before .before .before .before .before in (
-      formed _ _ _ _ _ (entry .pre .0) (entry .pre .1) (entry .pre .2) (entry .pre .3) _ _ _ _ _ (at-read-within .read-within .ensures) (passed back7) (at-word-at .word-at .result) (at-word-at .word-at .ensures),
-      omega (arith, rows-n _ _ _ _ _ (entry .pre .0) (entry .pre .1) (entry .pre .2) (entry .pre .3) _ _ _ _ _ (at-read-within .read-within .ensures) (passed back7) (at-word-at .word-at .result) (at-word-at .word-at .ensures), got back7 .image .header .few),
+      formed _ _ _ _ _ (entry .pre .0) (entry .pre .1) (entry .pre .2) (entry .pre .3) _ _ _ _ _ (at-read-within .read-within .ensures) (passed back7)
+          (at-word-at .word-at .result) (at-word-at .word-at .ensures),
+      omega (
+        arith,
+        rows-n _ _ _ _ _ (entry .pre .0) (entry .pre .1) (entry .pre .2) (entry .pre .3) _ _ _ _ _ (at-read-within .read-within .ensures)
+            (passed back7) (at-word-at .word-at .result) (at-word-at .word-at .ensures),
+        got back7 .image .header .few,
+      ),
       entry .pre .4,
       omega (arith, entry .pre .5, entry .pre .6),
       omega (arith, entry .pre .5, entry .pre .6),
-      omega (arith, rows-n _ _ _ _ _ (entry .pre .0) (entry .pre .1) (entry .pre .2) (entry .pre .3) _ _ _ _ _ (at-read-within .read-within .ensures) (passed back7) (at-word-at .word-at .result) (at-word-at .word-at .ensures), flags-n _ _ _ _ _ (entry .pre .0) (entry .pre .1) (entry .pre .2) (entry .pre .3) _ _ _ _ _ (at-read-within .read-within .ensures) (passed back7) (at-word-at .word-at .result) (at-word-at .word-at .ensures)),
+      omega (
+        arith,
+        rows-n _ _ _ _ _ (entry .pre .0) (entry .pre .1) (entry .pre .2) (entry .pre .3) _ _ _ _ _ (at-read-within .read-within .ensures)
+            (passed back7) (at-word-at .word-at .result) (at-word-at .word-at .ensures),
+        flags-n _ _ _ _ _ (entry .pre .0) (entry .pre .1) (entry .pre .2) (entry .pre .3) _ _ _ _ _ (at-read-within .read-within .ensures) (passed back7)
+            (at-word-at .word-at .result) (at-word-at .word-at .ensures),
+      ),
       entry .pre .7,
     )
 
@@ -144,8 +178,16 @@ returns-3 c =
     let at-read-within = back16 .before .before .before .before .before .before .before .before .before .before in
     let at-if1 = at-read-within .before .before .before .before .before in
     let entry = at-if1 .before .before .before .before .before .before .before .before .before .before in
-    let l = at-put-map .put-map .ensures .1 in
-    ((at-put-map .put-map .ensures .0 .0 ∙ ap (lay (entry .args .text .now) 0) (done-is _ _ _ _ _ (entry .pre .0) (entry .pre .1) (entry .pre .2) (entry .pre .3) _ _ _ _ _ (at-read-within .read-within .ensures) (passed back16) (entry .args .more) (at-if1 .if1 .left) (at-word-at .word-at .result) (at-word-at .word-at .ensures)), at-put-map .put-map .ensures .0 .1), left-done _ _ _ _ _ (entry .pre .0) (entry .pre .1) (entry .pre .2) (entry .pre .3) _ _ _ _ _ (at-read-within .read-within .ensures) (passed back16) (entry .args .more) (at-if1 .if1 .left) (at-word-at .word-at .result) (at-word-at .word-at .ensures) _ _ _ _ _ _ (l .0) (l .1) (l .2))
+    let l = at-put-map .put-map .ensures .1 in (
+      (
+        at-put-map .put-map .ensures .0 .0 ∙ ap (lay (entry .args .text .now) 0)
+            (done-is _ _ _ _ _ (entry .pre .0) (entry .pre .1) (entry .pre .2) (entry .pre .3) _ _ _ _ _ (at-read-within .read-within .ensures) (passed back16)
+            (entry .args .more) (at-if1 .if1 .left) (at-word-at .word-at .result) (at-word-at .word-at .ensures)),
+        at-put-map .put-map .ensures .0 .1,
+      ),
+      left-done _ _ _ _ _ (entry .pre .0) (entry .pre .1) (entry .pre .2) (entry .pre .3) _ _ _ _ _ (at-read-within .read-within .ensures) (passed back16)
+          (entry .args .more) (at-if1 .if1 .left) (at-word-at .word-at .result) (at-word-at .word-at .ensures) _ _ _ _ _ _ (l .0) (l .1) (l .2),
+    )
 
 pub report-text-spec : {M : Type 1} → statement M
 report-text-spec =

@@ -21,7 +21,17 @@ add-result-2 : tie.Need-add-result-2
 add-result-2 c = search needs
 
 returns : tie.Need-returns
-returns c = (omega (arith, all-length (c .before .before .before .args .items), c .before .before .size .ensures .0, c .before .size2 .ensures .0, c .size3 .ensures .0), omega arith)
+returns c = (
+  omega (
+    arith,
+    all-length (c .before .before .before .args .items),
+    c .before .before .size .ensures .0,
+    c .before .size2 .ensures .0,
+    c
+        .size3 .ensures .0,
+  ),
+  omega arith,
+)
 
 pub count-spec : {M : Type 1} → statement M
 count-spec =

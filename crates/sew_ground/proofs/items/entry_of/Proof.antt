@@ -18,10 +18,12 @@ split-requires : tie.Need-split-requires
 split-requires c κs = search needs
 
 returns : tie.Need-returns
-returns c = c .merge .ensures ∙ sym (ap (λ k. entryOf (c .before .before .before .args .class) k (c .before .before .before .args .left) (c .before .before .before .args .right)) (c .before .enum-told .given .1))
+returns c = c .merge .ensures ∙ sym (ap (λ k. entryOf (c .before .before .before .args .class) k (c .before .before .before .args .left)
+    (c .before .before .before .args .right)) (c .before .enum-told .given .1))
 
 returns-2 : tie.Need-returns-2
-returns-2 c = c .split .ensures ∙ sym (ap (λ k. entryOf (c .before .before .before .args .class) k (c .before .before .before .args .left) (c .before .before .before .args .right)) (c .before .enum-told2 .given .1))
+returns-2 c = c .split .ensures ∙ sym (ap (λ k. entryOf (c .before .before .before .args .class) k (c .before .before .before .args .left)
+    (c .before .before .before .args .right)) (c .before .enum-told2 .given .1))
 
 pub entry-of-spec : {M : Type 1} → statement M
 entry-of-spec =

@@ -15,7 +15,8 @@ entry-of-requires : tie.Need-entry-of-requires
 entry-of-requires c κs = search needs
 
 returns-3 : tie.Need-returns-3
-returns-3 c = one-differs (c .before .before .before .args .asked) _ _ _ _ _ (not-false _ (c .before .before .if1 .left)) (c .before .if2 .left) (c .entry-of .ensures)
+returns-3 c = one-differs (c .before .before .before .args .asked) _ _ _ _ _ (not-false _ (c .before .before .if1 .left)) (c .before .if2 .left)
+    (c .entry-of .ensures)
 
 pub item-if-spec : {M : Type 1} → statement M
 item-if-spec = tie.close (tie.spec returns returns-2 entry-of-requires returns-3)

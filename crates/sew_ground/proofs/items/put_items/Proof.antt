@@ -17,7 +17,15 @@ put-item-requires-3 : tie.Need-put-item-requires-3
 put-item-requires-3 c κs =
     let at-put-item = c .before .before .before .before .before .before .before in
     let entry = at-put-item .before .before .before in
-    omega (arith, all-length (entry .args .items), at-put-item .put-item .ensures .0, at-put-item .put-item .kept .0, c .before .before .before .put-item2 .ensures .0, c .before .before .before .put-item2 .kept .0)
+    omega (
+      arith,
+      all-length (entry .args .items),
+      at-put-item .put-item .ensures .0,
+      at-put-item .put-item .kept .0,
+      c .before .before .before
+          .put-item2 .ensures .0,
+      c .before .before .before .put-item2 .kept .0,
+    )
 
 same-length : tie.Need-same-length
 same-length c =
@@ -30,8 +38,16 @@ returns c =
     let at-put-item2 = c .before .before .before .before .before .before in
     let at-put-item = at-put-item2 .before .before .before .before in
     let entry = at-put-item .before .before .before in (
-      omega (arith, all-length (entry .args .items), at-put-item .put-item .ensures .0, at-put-item2 .put-item2 .ensures .0, c .before .before .put-item3 .ensures .0),
-      written-three _ _ _ _ _ _ _ _ _ _ (at-put-item .put-item .ensures .1) (at-put-item .put-item .ensures .0) (at-put-item2 .put-item2 .ensures .1) (at-put-item2 .put-item2 .ensures .0) (c .before .before .put-item3 .ensures .1),
+      omega (
+        arith,
+        all-length (entry .args .items),
+        at-put-item .put-item .ensures .0,
+        at-put-item2 .put-item2 .ensures .0,
+        c .before .before
+            .put-item3 .ensures .0,
+      ),
+      written-three _ _ _ _ _ _ _ _ _ _ (at-put-item .put-item .ensures .1) (at-put-item .put-item .ensures .0) (at-put-item2 .put-item2 .ensures .1)
+          (at-put-item2 .put-item2 .ensures .0) (c .before .before .put-item3 .ensures .1),
     )
 
 pub put-items-spec : {M : Type 1} → statement M

@@ -32,7 +32,8 @@ returns-2 c =
     let at-if1 = c .before .before .before .before in
     let at-room = at-if1 .before in
     let at-count = at-room .before .before in
-    settles-done _ _ _ _ (at-count .count .ensures .0) _ (omega (arith, at-if1 .if1 .left, at-room .room .ensures)) (c .before .before .put-items .ensures .1 ∙ written-put _ _)
+    settles-done _ _ _ _ (at-count .count .ensures .0) _ (omega (arith, at-if1 .if1 .left, at-room .room .ensures))
+    (c .before .before .put-items .ensures .1 ∙ written-put _ _)
 
 pub settle-spec : {M : Type 1} → statement M
 settle-spec =

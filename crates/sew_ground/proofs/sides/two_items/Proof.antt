@@ -18,7 +18,8 @@ returns : tie.Need-returns
 unfolding twoEntries
 returns c =
     let at-item-if = c .before .before .before .before in
-    three-items (at-item-if .item-if .result) (c .before .before .item-if2 .result) (c .item-if3 .result) _ _ _ (at-item-if .item-if .ensures) (c .before .before .item-if2 .ensures) (c .item-if3 .ensures)
+    three-items (at-item-if .item-if .result) (c .before .before .item-if2 .result) (c .item-if3 .result) _ _ _ (at-item-if .item-if .ensures)
+    (c .before .before .item-if2 .ensures) (c .item-if3 .ensures)
 
 pub two-items-spec : {M : Type 1} → statement M
 two-items-spec =

@@ -3,7 +3,7 @@ use native.Mathlib.Omega.{arith}
 use mathlib.Core.Path.{_∙_}
 use Rattle.map_betas.specs.Betas.{darts}
 use Rattle.sew_ground.proofs.EndLaws.{one-items-are}
-use Rattle.sew_ground.proofs.SideLaws.{scratch-same, larger-below}
+use Rattle.sew_ground.proofs.SideLaws.{clean-same, larger-below}
 use borrow.Author.Needs.{needs}
 use Rattle.sew_one.proofs.one.one_items.Statement.{statement}
 use Rattle.sew_one.proofs.one.one_items.Tie as tie
@@ -17,20 +17,26 @@ beta-at-requires-2 c κs = search needs
 larger-of-requires : tie.Need-larger-of-requires
 larger-of-requires c κs = search needs
 
-vertex-at-requires : tie.Need-vertex-at-requires
-vertex-at-requires c κs =
+name-core-requires : tie.Need-name-core-requires
+name-core-requires c κs =
     let at-beta-at = c .before .before .before .before in
     let entry = at-beta-at .before .before .before .before in (
       entry .pre .0,
-      omega (arith, c .before .before .larger-of .ensures, larger-below (darts (entry .args .rows .now)) (at-beta-at .beta-at .result) (c .before .before .before .beta-at2 .result) (omega (arith, at-beta-at .beta-at .ensures, entry .pre .0 .below 3 (entry .args .ld))) (omega (arith, c .before .before .before .beta-at2 .ensures, entry .pre .0 .below 2 (entry .args .ld)))),
+      omega (
+        arith,
+        c .before .before .larger-of .ensures,
+        larger-below (darts (entry .args .rows .now)) (at-beta-at .beta-at .result)
+            (c .before .before .before .beta-at2 .result) (omega (arith, at-beta-at .beta-at .ensures, entry .pre .0 .below 3 (entry .args .ld)))
+            (omega (arith, c .before .before .before .beta-at2 .ensures, entry .pre .0 .below 2 (entry .args .ld))),
+      ),
       entry .pre .3,
     )
 
-vertex-at-requires-2 : tie.Need-vertex-at-requires-2
-vertex-at-requires-2 c κs =
-    let at-vertex-at = c .before .before .before .before .before .before in
-    let entry = at-vertex-at .before .before .before .before .before .before .before .before .before in
-    (entry .pre .0, entry .pre .2, scratch-same _ _ _ _ _ (entry .pre .3) (at-vertex-at .vertex-at .ensures .1 .0) (at-vertex-at .vertex-at .ensures .1 .1))
+name-core-requires-2 : tie.Need-name-core-requires-2
+name-core-requires-2 c κs =
+    let at-name-core = c .before .before .before .before .before .before in
+    let entry = at-name-core .before .before .before .before .before .before .before .before .before in
+    (entry .pre .0, entry .pre .2, clean-same _ _ _ _ _ (entry .pre .3) (at-name-core .name-core .ensures .1 .0) (at-name-core .name-core .ensures .1 .1))
 
 item-if-requires : tie.Need-item-if-requires
 item-if-requires c κs = search needs
@@ -43,13 +49,18 @@ same-length-2 c = search needs
 
 returns : tie.Need-returns
 returns c =
-    let at-vertex-at2 = c .before .before .before .before .before in
-    let at-vertex-at = at-vertex-at2 .before .before .before .before .before .before .before in
-    let at-larger-of = at-vertex-at .before .before .before in
+    let at-name-core2 = c .before .before .before .before .before in
+    let at-name-core = at-name-core2 .before .before .before .before .before .before .before in
+    let at-larger-of = at-name-core .before .before .before in
     let at-beta-at2 = at-larger-of .before in
     let at-beta-at = at-beta-at2 .before in (
-      one-items-are _ _ _ _ _ _ _ _ _ _ (at-beta-at .beta-at .ensures) (at-beta-at2 .beta-at2 .ensures) (at-larger-of .larger-of .ensures) (at-vertex-at .vertex-at .ensures .0) (at-vertex-at2 .vertex-at2 .ensures .0) (c .item-if .ensures),
-      (at-vertex-at2 .vertex-at2 .ensures .1 .0 ∙ at-vertex-at .vertex-at .ensures .1 .0, at-vertex-at2 .vertex-at2 .ensures .1 .1 ∙ at-vertex-at .vertex-at .ensures .1 .1),
+      one-items-are _ _ _ _ _ _ _ _ _ _ (at-beta-at .beta-at .ensures) (at-beta-at2 .beta-at2 .ensures) (at-larger-of .larger-of .ensures)
+          (at-name-core .name-core .ensures .0) (at-name-core2 .name-core2 .ensures .0) (c .item-if .ensures),
+      (
+        at-name-core2 .name-core2 .ensures .1 .0 ∙ at-name-core .name-core .ensures .1 .0,
+        at-name-core2 .name-core2 .ensures .1 .1
+            ∙ at-name-core .name-core .ensures .1 .1,
+      ),
     )
 
 pub one-items-spec : {M : Type 1} → statement M
@@ -59,8 +70,8 @@ one-items-spec =
     beta-at-requires
     beta-at-requires-2
     larger-of-requires
-    vertex-at-requires
-    vertex-at-requires-2
+    name-core-requires
+    name-core-requires-2
     item-if-requires
     same-length
     same-length-2

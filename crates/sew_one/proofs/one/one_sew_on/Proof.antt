@@ -33,8 +33,11 @@ same-length-3 c = search needs
 returns : tie.Need-returns
 returns c =
     let at-one-links = c .before .before .before .before in
-    let at-one-items = at-one-links .before .before .before .before .before .before in
-    (one-sew-refused _ _ _ _ _ _ (at-one-links .one-links .ensures) (sym (c .before .is-done .ensures) ∙ not-true _ (c .if1 .taken)), at-one-items .one-items .ensures .1)
+    let at-one-items = at-one-links .before .before .before .before .before .before in (
+      one-sew-refused _ _ _ _ _ _ (at-one-links .one-links .ensures) (sym (c .before .is-done .ensures) ∙ not-true _ (c .if1 .taken)),
+      at-one-items
+          .one-items .ensures .1,
+    )
 
 settle-requires : tie.Need-settle-requires
 settle-requires c κs = search needs
@@ -71,8 +74,10 @@ returns-2 c =
     let at-one-links = at-is-done .before .before .before in
     let at-one-items = at-one-links .before .before .before .before .before .before in
     let entry = at-one-items .before .before .before .before .before .before .before .before in (
-      one-sew-tight _ _ _ _ _ _ (at-one-links .one-links .ensures) (entry .pre .0) (entry .pre .1) (entry .pre .2) (sym (at-is-done .is-done .ensures) ∙ not-false _ (at-if1 .if1 .left)) _
-          (at-one-items .one-items .ensures .0) _ _ (at-settle .settle .ensures) _ (c .before .before .take-back .ensures) (sym (at-is-done2 .is-done2 .ensures) ∙ not-true _ (at-if2 .if2 .taken)),
+      one-sew-tight _ _ _ _ _ _ (at-one-links .one-links .ensures) (entry .pre .0) (entry .pre .1) (entry .pre .2)
+          (sym (at-is-done .is-done .ensures) ∙ not-false _ (at-if1 .if1 .left)) _
+          (at-one-items .one-items .ensures .0) _ _ (at-settle .settle .ensures) _ (c .before .before .take-back .ensures)
+          (sym (at-is-done2 .is-done2 .ensures) ∙ not-true _ (at-if2 .if2 .taken)),
       at-one-items .one-items .ensures .1,
     )
 
@@ -96,7 +101,8 @@ returns-3 c =
     let at-one-links = at-is-done .before .before .before in
     let at-one-items = at-one-links .before .before .before .before .before .before in
     let entry = at-one-items .before .before .before .before .before .before .before .before in (
-      one-sew-done _ _ _ _ _ _ (at-one-links .one-links .ensures) (entry .pre .0) (entry .pre .1) (entry .pre .2) (sym (at-is-done .is-done .ensures) ∙ not-false _ (at-if1 .if1 .left)) _
+      one-sew-done _ _ _ _ _ _ (at-one-links .one-links .ensures) (entry .pre .0) (entry .pre .1) (entry .pre .2)
+          (sym (at-is-done .is-done .ensures) ∙ not-false _ (at-if1 .if1 .left)) _
           (at-one-items .one-items .ensures .0) _ _ (at-settle .settle .ensures) (sym (c .before .is-done2 .ensures) ∙ not-false _ (c .if2 .left)),
       at-one-items .one-items .ensures .1,
     )

@@ -4,18 +4,20 @@ use mathlib.Core.Path.{sym, _∙_, _≡_, refl}
 use borrow.Author.Tests.{not-true, not-false}
 use Rattle.map_betas.specs.Betas.{beta}
 use Rattle.sew_ground.proofs.OneRows.{one-unlinked}
-use Rattle.sew_ground.proofs.SideLaws.{scratch-on}
+use Rattle.sew_ground.proofs.SideLaws.{clean-on}
 use Rattle.sew_ground.proofs.EndLaws.{one-unsew-refused, one-unsew-dart, one-unsew-tight, one-unsew-done}
 use borrow.Author.Needs.{needs}
 use Rattle.sew_one.proofs.one.one_unsew_on.Statement.{statement}
 use Rattle.sew_one.proofs.one.one_unsew_on.Tie as tie
 
 -- the dart that was answered
-answered : (c : tie.After-dart-of) → c .dart-of .result ≡ beta (c .before .before .before .before .before .before .before .before .before .before .before .args .rows .now) 1 (c .before .before .before .before .before .before .before .before .before .before .before .args .ld)
+answered : (c : tie.After-dart-of) → c .dart-of .result ≡ beta (c .before .before .before .before .before .before .before .before .before .before
+    .before .args .rows .now) 1 (c .before .before .before .before .before .before .before .before .before .before .before .args .ld)
 answered c =
     let at-one-unlinks = c .before .before .before .before .before in
     let entry = at-one-unlinks .before .before .before .before .before .before in
-    one-unsew-dart _ (entry .args .plan .now) _ _ _ (at-one-unlinks .one-unlinks .ensures) (entry .pre .0) (sym (c .before .before .is-done .ensures) ∙ not-false _ (c .before .if1 .left)) _
+    one-unsew-dart _ (entry .args .plan .now) _ _ _ (at-one-unlinks .one-unlinks .ensures) (entry .pre .0)
+    (sym (c .before .before .is-done .ensures) ∙ not-false _ (c .before .if1 .left)) _
     (c .dart-of .ensures)
 
 one-unlinks-requires : tie.Need-one-unlinks-requires
@@ -42,7 +44,7 @@ one-items-requires c κs =
       one-unlinked _ _ _ _ (entry .pre .0) (at-one-unlinks .one-unlinks .ensures),
       omega (arith, entry .pre .1 .below, at-one-unlinks .one-unlinks .kept .0),
       omega (arith, answered (c .before .before .before), entry .pre .0 .below 1 (entry .args .ld), at-one-unlinks .one-unlinks .kept .0),
-      scratch-on (entry .args .rows .now) (at-one-unlinks .one-unlinks .last .0) _ _ (at-one-unlinks .one-unlinks .kept .0) (entry .pre .2),
+      clean-on (entry .args .rows .now) (at-one-unlinks .one-unlinks .last .0) _ _ (at-one-unlinks .one-unlinks .kept .0) (entry .pre .2),
     )
 
 settle-requires : tie.Need-settle-requires
@@ -84,8 +86,10 @@ returns-2 c =
     let at-is-done = at-if1 .before in
     let at-one-unlinks = at-is-done .before .before .before in
     let entry = at-one-unlinks .before .before .before .before .before .before in (
-      one-unsew-tight _ _ _ _ _ (at-one-unlinks .one-unlinks .ensures) (entry .pre .0) (sym (at-is-done .is-done .ensures) ∙ not-false _ (at-if1 .if1 .left)) _ (at-dart-of .dart-of .ensures) _
-          (at-one-items .one-items .ensures .0) _ _ (at-settle .settle .ensures) _ (c .before .before .link-again .ensures) (sym (at-is-done2 .is-done2 .ensures) ∙ not-true _ (at-if2 .if2 .taken)),
+      one-unsew-tight _ _ _ _ _ (at-one-unlinks .one-unlinks .ensures) (entry .pre .0) (sym (at-is-done .is-done .ensures)
+          ∙ not-false _ (at-if1 .if1 .left)) _ (at-dart-of .dart-of .ensures) _
+          (at-one-items .one-items .ensures .0) _ _ (at-settle .settle .ensures) _ (c .before .before .link-again .ensures)
+          (sym (at-is-done2 .is-done2 .ensures) ∙ not-true _ (at-if2 .if2 .taken)),
       at-one-items .one-items .ensures .1,
     )
 
@@ -110,7 +114,8 @@ returns-3 c =
     let at-is-done = at-if1 .before in
     let at-one-unlinks = at-is-done .before .before .before in
     let entry = at-one-unlinks .before .before .before .before .before .before in (
-      one-unsew-done _ _ _ _ _ (at-one-unlinks .one-unlinks .ensures) (entry .pre .0) (sym (at-is-done .is-done .ensures) ∙ not-false _ (at-if1 .if1 .left)) _ (at-dart-of .dart-of .ensures) _
+      one-unsew-done _ _ _ _ _ (at-one-unlinks .one-unlinks .ensures) (entry .pre .0) (sym (at-is-done .is-done .ensures)
+          ∙ not-false _ (at-if1 .if1 .left)) _ (at-dart-of .dart-of .ensures) _
           (at-one-items .one-items .ensures .0) _ _ (at-settle .settle .ensures) (sym (c .before .is-done2 .ensures) ∙ not-false _ (c .if2 .left)),
       at-one-items .one-items .ensures .1,
     )

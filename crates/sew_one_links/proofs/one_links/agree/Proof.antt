@@ -28,7 +28,8 @@ beta-at-requires-3 c κs =
 returns-2 : tie.Need-returns-2
 returns-2 c =
     let at-both-three = c .before .before .before .before in
-    agrees-two _ _ _ _ _ _ (sym (at-both-three .both-three .ensures) ∙ not-false _ (c .before .before .before .if1 .left)) (c .before .before .beta-at .ensures) (c .before .beta-at2 .ensures) (c .beta-at3 .ensures)
+    agrees-two _ _ _ _ _ _ (sym (at-both-three .both-three .ensures) ∙ not-false _ (c .before .before .before .if1 .left))
+    (c .before .before .beta-at .ensures) (c .before .beta-at2 .ensures) (c .beta-at3 .ensures)
 
 pub agree-spec : {M : Type 1} → statement M
 agree-spec =

@@ -8,7 +8,11 @@ use Rattle.sew_one_links.proofs.one_links.cut_second.Statement.{stateme
 use Rattle.sew_one_links.proofs.one_links.cut_second.Tie as tie
 
 both-three-requires : tie.Need-both-three-requires
-both-three-requires c κs = (inside _ _ (c .before .before .pre .0) (c .before .before .pre .1), inside _ _ (c .before .before .pre .0) (c .before .before .pre .2))
+both-three-requires c κs = (
+  inside _ _ (c .before .before .pre .0) (c .before .before .pre .1),
+  inside _ _ (c .before .before .pre .0)
+      (c .before .before .pre .2),
+)
 
 same-length : tie.Need-same-length
 same-length c = search needs
@@ -34,7 +38,8 @@ returns-2 c =
     let at-beta-at = c .before .before .before .before in
     let at-if1 = at-beta-at .before .before in
     let at-both-three = at-if1 .before in
-    cut-some _ _ _ _ _ _ (sym (at-both-three .both-three .ensures) ∙ not-false _ (at-if1 .if1 .left)) (at-beta-at .beta-at .ensures) (c .before .before .unlink-core .ensures)
+    cut-some _ _ _ _ _ _ (sym (at-both-three .both-three .ensures) ∙ not-false _ (at-if1 .if1 .left)) (at-beta-at .beta-at .ensures)
+    (c .before .before .unlink-core .ensures)
 
 pub cut-second-spec : {M : Type 1} → statement M
 cut-second-spec =

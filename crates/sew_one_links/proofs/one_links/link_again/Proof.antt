@@ -13,7 +13,12 @@ link-core-requires : tie.Need-link-core-requires
 link-core-requires c κs =
     let entry = c .before .before .before .before .before .before in
     asks-link _ 1 _ _ (formed-as _ _ (c .before .before .before .put-second .ensures) (put-formed _ _ _ (entry .pre .0) .0)) (omega arith) (omega arith)
-    (omega (arith, entry .pre .1, c .before .before .before .put-second .kept .0)) (omega (arith, entry .pre .2, c .before .before .before .put-second .kept .0))
+    (omega (arith, entry .pre .1, c .before .before .before .put-second .kept .0)) (omega (
+      arith,
+      entry .pre .2,
+      c .before .before .before .put-second
+          .kept .0,
+    ))
 
 same-length : tie.Need-same-length
 same-length c =

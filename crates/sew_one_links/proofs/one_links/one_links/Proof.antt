@@ -8,7 +8,11 @@ use Rattle.sew_one_links.proofs.one_links.one_links.Statement.{statemen
 use Rattle.sew_one_links.proofs.one_links.one_links.Tie as tie
 
 both-three-requires : tie.Need-both-three-requires
-both-three-requires c κs = (inside _ _ (c .before .before .pre .0) (c .before .before .pre .1 .below), inside _ _ (c .before .before .pre .0) (c .before .before .pre .2 .below))
+both-three-requires c κs = (
+  inside _ _ (c .before .before .pre .0) (c .before .before .pre .1 .below),
+  inside _ _ (c .before .before .pre .0)
+      (c .before .before .pre .2 .below),
+)
 
 beta-at-requires : tie.Need-beta-at-requires
 beta-at-requires c κs =
@@ -43,7 +47,8 @@ returns-2 : tie.Need-returns-2
 returns-2 c =
     let at-link-core = c .before .before .before .before .before in
     let at-both-three = at-link-core .before .before .before .before .before .before in
-    links-one _ _ _ _ _ (at-link-core .link-core .ensures) (sym (c .before .before .is-done .ensures) ∙ not-false _ (c .before .if1 .left)) _ (at-both-three .both-three .ensures) (not-true _ (c .if2 .taken))
+    links-one _ _ _ _ _ (at-link-core .link-core .ensures) (sym (c .before .before .is-done .ensures) ∙ not-false _ (c .before .if1 .left)) _
+    (at-both-three .both-three .ensures) (not-true _ (c .if2 .taken))
 
 second-link-requires : tie.Need-second-link-requires
 second-link-requires c κs =
@@ -72,8 +77,10 @@ returns-3 c =
     let at-beta-at = at-beta-at2 .before .before in
     let at-both-three = at-beta-at .before .before in
     let entry = at-both-three .before .before .before in
-    links-two _ _ _ _ _ (at-link-core .link-core .ensures) (sym (at-is-done .is-done .ensures) ∙ not-false _ (at-if1 .if1 .left)) _ _ _ _ _ (entry .pre .0) (entry .pre .1) (entry .pre .2)
-    (at-both-three .both-three .ensures) (not-false _ (at-if2 .if2 .left)) (at-beta-at2 .beta-at2 .ensures) (at-beta-at .beta-at .ensures) (c .before .before .second-link .ensures)
+    links-two _ _ _ _ _ (at-link-core .link-core .ensures) (sym (at-is-done .is-done .ensures) ∙ not-false _ (at-if1 .if1 .left)) _ _ _ _ _
+    (entry .pre .0) (entry .pre .1) (entry .pre .2)
+    (at-both-three .both-three .ensures) (not-false _ (at-if2 .if2 .left)) (at-beta-at2 .beta-at2 .ensures) (at-beta-at .beta-at .ensures)
+    (c .before .before .second-link .ensures)
 
 pub one-links-spec : {M : Type 1} → statement M
 one-links-spec =

@@ -9,11 +9,13 @@ use Rattle.sew_one_links.proofs.one_links.one_unlinks.Statement.{statem
 use Rattle.sew_one_links.proofs.one_links.one_unlinks.Tie as tie
 
 -- the dart that was answered
-answered : (c : tie.After-dart-of) → c .dart-of .result ≡ beta (c .before .before .before .before .before .before .before .before .args .rows .now) 1 (c .before .before .before .before .before .before .before .before .args .ld)
+answered : (c : tie.After-dart-of) → c .dart-of .result ≡ beta (c .before .before .before .before .before .before .before .before .args .rows .now) 1
+    (c .before .before .before .before .before .before .before .before .args .ld)
 answered c =
     let at-unlink-core = c .before .before .before .before .before in
     let entry = at-unlink-core .before .before .before in
-    unlinked-dart _ 1 _ _ _ _ (entry .pre .0) (omega arith) (omega arith) (at-unlink-core .unlink-core .ensures) (sym (c .before .before .is-done .ensures) ∙ not-false _ (c .before .if1 .left))
+    unlinked-dart _ 1 _ _ _ _ (entry .pre .0) (omega arith) (omega arith) (at-unlink-core .unlink-core .ensures)
+    (sym (c .before .before .is-done .ensures) ∙ not-false _ (c .before .if1 .left))
     (c .dart-of .ensures)
 
 unlink-core-requires : tie.Need-unlink-core-requires
@@ -65,7 +67,8 @@ returns-2 c =
     let at-is-done = at-if1 .before in
     let at-unlink-core = at-is-done .before .before .before in
     let entry = at-unlink-core .before .before .before in
-    unlinks-stray _ _ _ _ (at-unlink-core .unlink-core .ensures) _ (sym (at-is-done .is-done .ensures) ∙ not-false _ (at-if1 .if1 .left)) (answered back7) _ _ _ (entry .pre .0)
+    unlinks-stray _ _ _ _ (at-unlink-core .unlink-core .ensures) _ (sym (at-is-done .is-done .ensures) ∙ not-false _ (at-if1 .if1 .left))
+    (answered back7) _ _ _ (entry .pre .0)
     (at-agree .agree .ensures) (not-true _ (at-if2 .if2 .taken)) (c .before .before .link-core .ensures)
 
 cut-second-requires : tie.Need-cut-second-requires
@@ -91,7 +94,8 @@ returns-3 c =
     let at-if1 = back7 .before in
     let at-is-done = at-if1 .before in
     let at-unlink-core = at-is-done .before .before .before in
-    unlinks-done _ _ _ _ (at-unlink-core .unlink-core .ensures) _ (sym (at-is-done .is-done .ensures) ∙ not-false _ (at-if1 .if1 .left)) (answered back7) _ _ (at-agree .agree .ensures)
+    unlinks-done _ _ _ _ (at-unlink-core .unlink-core .ensures) _ (sym (at-is-done .is-done .ensures) ∙ not-false _ (at-if1 .if1 .left))
+    (answered back7) _ _ (at-agree .agree .ensures)
     (not-false _ (at-if2 .if2 .left)) (c .before .before .cut-second .ensures)
 
 pub one-unlinks-spec : {M : Type 1} → statement M

@@ -17,7 +17,8 @@ unlink-core-requires : tie.Need-unlink-core-requires
 unlink-core-requires c κs =
     let at-link-core = c .before .before .before .before .before in
     let entry = at-link-core .before .before .before in
-    asks-unlink _ 1 _ (formed-as _ _ (rows-refused _ _ _ _ _ _ (at-link-core .link-core .ensures) (sym (c .before .before .is-done .ensures) ∙ not-true _ (c .before .if1 .taken))) (entry .pre .0))
+    asks-unlink _ 1 _ (formed-as _ _ (rows-refused _ _ _ _ _ _ (at-link-core .link-core .ensures)
+    (sym (c .before .before .is-done .ensures) ∙ not-true _ (c .before .if1 .taken))) (entry .pre .0))
     (omega arith) (omega arith) (omega (arith, entry .pre .1, at-link-core .link-core .kept .0))
 
 same-length : tie.Need-same-length
@@ -30,7 +31,8 @@ returns c =
     let at-if1 = c .before .before .before .before in
     let at-is-done = at-if1 .before in
     let at-link-core = at-is-done .before .before .before in
-    second-refused _ _ _ _ _ _ (at-link-core .link-core .ensures) _ _ (sym (at-is-done .is-done .ensures) ∙ not-true _ (at-if1 .if1 .taken)) (c .before .before .unlink-core .ensures)
+    second-refused _ _ _ _ _ _ (at-link-core .link-core .ensures) _ _ (sym (at-is-done .is-done .ensures) ∙ not-true _ (at-if1 .if1 .taken))
+    (c .before .before .unlink-core .ensures)
 
 same-length-2 : tie.Need-same-length-2
 same-length-2 c = search needs

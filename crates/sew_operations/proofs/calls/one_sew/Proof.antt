@@ -1,44 +1,21 @@
--- `calls::one_sew` meets its contract: the tests, then the call behind them. Assumes nothing.
-use mathlib.Core.Path.{sym, ap, _∙_}
-use borrow.Author.Tests.{not-true, not-false}
-use Rattle.map_betas.specs.Answers.{isDone}
-use Rattle.map_betas.specs.Guards.{guardOf}
-use Rattle.map_betas.proofs.GuardLaws.{ready}
+-- `calls::one_sew` meets its contract: the operation of its name. Assumes nothing.
 use Rattle.sew_ground.specs.Calls.{oneSew}
-use Rattle.sew_ground.proofs.CallLaws.{sew-refused, sew-goes}
+use Rattle.sew_operations.specs.Operations.{operation}
 use borrow.Author.Needs.{needs}
 use Rattle.sew_operations.proofs.calls.one_sew.Statement.{statement}
 use Rattle.sew_operations.proofs.calls.one_sew.Tie as tie
 
-scratch-requires : tie.Need-scratch-requires
-scratch-requires c κs = search needs
+slice-aggregate-operate : tie.Need-slice-aggregate-operate
+slice-aggregate-operate c = search needs
 
-guard-requires : tie.Need-guard-requires
-guard-requires c κs = search needs
+slice-aggregate-operate-2 : tie.Need-slice-aggregate-operate-2
+slice-aggregate-operate-2 c = search needs
 
-is-done-requires : tie.Need-is-done-requires
-is-done-requires c κs = search needs
+operate-requires : tie.Need-operate-requires
+operate-requires c κs = search needs
 
 same-length : tie.Need-same-length
 same-length c = search needs
-
-returns : tie.Need-returns
-unfolding oneSew
-returns c =
-    let entry = c .before .before .before .before .before .before .before .before .before in
-    sew-refused (entry .args .rows .now) (entry .args .marks .now) (entry .args .queue .now) (entry .args .plan .now) _ _ _
-    (c .before .before .guard .ensures ∙ ap (λ l. guardOf (entry .args .rows .now) l 1 (entry .args .ld) (entry .args .rd)) (c .before .before .before .scratch .ensures))
-    (sym (c .before .is-done .ensures) ∙ not-true _ (c .if1 .taken))
-
-one-sew-done-requires : tie.Need-one-sew-done-requires
-one-sew-done-requires c κs =
-    let at-if1 = c .before .before .before .before in
-    let at-is-done = at-if1 .before in
-    let at-guard = at-is-done .before in
-    let at-scratch = at-guard .before in
-    let entry = at-scratch .before .before .before .before .before .before in
-    let h = ready (entry .args .rows .now) _ 1 (entry .args .ld) (entry .args .rd) (ap isDone (sym (at-guard .guard .ensures ∙ ap (λ l. guardOf (entry .args .rows .now) l 1 (entry .args .ld) (entry .args .rd)) (at-scratch .scratch .ensures))) ∙ sym (at-is-done .is-done .ensures) ∙ not-false _ (at-if1 .if1 .left)) in
-    (h .formed, h .lent .marks, h .lent .queue, h .left, h .right)
 
 same-length-2 : tie.Need-same-length-2
 same-length-2 c = search needs
@@ -49,34 +26,21 @@ same-length-3 c = search needs
 same-length-4 : tie.Need-same-length-4
 same-length-4 c = search needs
 
-same-length-5 : tie.Need-same-length-5
-same-length-5 c = search needs
-
-returns-2 : tie.Need-returns-2
-unfolding oneSew
-returns-2 c =
-    let at-one-sew-done = c .before .before .before .before .before .before .before .before in
-    let at-if1 = at-one-sew-done .before .before .before .before .before in
-    let at-is-done = at-if1 .before in
-    let at-guard = at-is-done .before in
-    let at-scratch = at-guard .before in
-    let entry = at-scratch .before .before .before .before .before .before in
-    sew-goes (entry .args .rows .now) (entry .args .marks .now) (entry .args .queue .now) (entry .args .plan .now) _ _ _
-    (at-guard .guard .ensures ∙ ap (λ l. guardOf (entry .args .rows .now) l 1 (entry .args .ld) (entry .args .rd)) (at-scratch .scratch .ensures))
-    _ (sym (at-is-done .is-done .ensures) ∙ not-false _ (at-if1 .if1 .left)) (at-one-sew-done .one-sew-done .ensures)
+returns : tie.Need-returns
+unfolding oneSew operation
+returns c =
+    let at-operate = c .before .before .before .before .before .before .before .before in
+    at-operate .operate .ensures
 
 pub one-sew-spec : {M : Type 1} → statement M
 one-sew-spec =
     tie.close
     (tie.spec
-    scratch-requires
-    guard-requires
-    is-done-requires
+    slice-aggregate-operate
+    slice-aggregate-operate-2
+    operate-requires
     same-length
-    returns
-    one-sew-done-requires
     same-length-2
     same-length-3
     same-length-4
-    same-length-5
-    returns-2)
+    returns)

@@ -1,44 +1,15 @@
--- `calls::two_sew` meets its contract: the tests, then the call behind them. Assumes nothing.
-use mathlib.Core.Path.{sym, ap, _∙_}
-use borrow.Author.Tests.{not-true, not-false}
-use Rattle.map_betas.specs.Answers.{isDone}
-use Rattle.map_betas.specs.Guards.{guardOf}
-use Rattle.map_betas.proofs.GuardLaws.{ready}
+-- `calls::two_sew` meets its contract: the operation of its name. Assumes nothing.
 use Rattle.sew_ground.specs.Calls.{twoSew}
-use Rattle.sew_ground.proofs.CallLaws.{sew-refused, sew-goes}
+use Rattle.sew_operations.specs.Operations.{operation}
 use borrow.Author.Needs.{needs}
 use Rattle.sew_operations.proofs.calls.two_sew.Statement.{statement}
 use Rattle.sew_operations.proofs.calls.two_sew.Tie as tie
 
-vertex-loans-requires : tie.Need-vertex-loans-requires
-vertex-loans-requires c κs = search needs
-
-guard-requires : tie.Need-guard-requires
-guard-requires c κs = search needs
-
-is-done-requires : tie.Need-is-done-requires
-is-done-requires c κs = search needs
+operate-requires : tie.Need-operate-requires
+operate-requires c κs = search needs
 
 same-length : tie.Need-same-length
 same-length c = search needs
-
-returns : tie.Need-returns
-unfolding twoSew
-returns c =
-    let entry = c .before .before .before .before .before .before .before .before .before .before .before in
-    sew-refused (entry .args .rows .now) (entry .args .marks .now) (entry .args .queue .now) (entry .args .plan .now) _ _ _
-    (c .before .before .guard .ensures ∙ ap (λ l. guardOf (entry .args .rows .now) l 1 (entry .args .ld) (entry .args .rd)) (c .before .before .before .vertex-loans .ensures))
-    (sym (c .before .is-done .ensures) ∙ not-true _ (c .if1 .taken))
-
-two-sew-done-requires : tie.Need-two-sew-done-requires
-two-sew-done-requires c κs =
-    let at-if1 = c .before .before .before .before in
-    let at-is-done = at-if1 .before in
-    let at-guard = at-is-done .before in
-    let at-vertex-loans = at-guard .before in
-    let entry = at-vertex-loans .before .before .before .before .before .before .before .before in
-    let h = ready (entry .args .rows .now) _ 1 (entry .args .ld) (entry .args .rd) (ap isDone (sym (at-guard .guard .ensures ∙ ap (λ l. guardOf (entry .args .rows .now) l 1 (entry .args .ld) (entry .args .rd)) (at-vertex-loans .vertex-loans .ensures))) ∙ sym (at-is-done .is-done .ensures) ∙ not-false _ (at-if1 .if1 .left)) in
-    ((h .formed, h .lent .marks, h .lent .queue, h .left, h .right), (h .lent .vertices, h .lent .coordinates))
 
 same-length-2 : tie.Need-same-length-2
 same-length-2 c = search needs
@@ -49,34 +20,19 @@ same-length-3 c = search needs
 same-length-4 : tie.Need-same-length-4
 same-length-4 c = search needs
 
-same-length-5 : tie.Need-same-length-5
-same-length-5 c = search needs
-
-returns-2 : tie.Need-returns-2
-unfolding twoSew
-returns-2 c =
-    let at-two-sew-done = c .before .before .before .before .before .before .before .before in
-    let at-if1 = at-two-sew-done .before .before .before .before .before in
-    let at-is-done = at-if1 .before in
-    let at-guard = at-is-done .before in
-    let at-vertex-loans = at-guard .before in
-    let entry = at-vertex-loans .before .before .before .before .before .before .before .before in
-    sew-goes (entry .args .rows .now) (entry .args .marks .now) (entry .args .queue .now) (entry .args .plan .now) _ _ _
-    (at-guard .guard .ensures ∙ ap (λ l. guardOf (entry .args .rows .now) l 1 (entry .args .ld) (entry .args .rd)) (at-vertex-loans .vertex-loans .ensures))
-    _ (sym (at-is-done .is-done .ensures) ∙ not-false _ (at-if1 .if1 .left)) (at-two-sew-done .two-sew-done .ensures)
+returns : tie.Need-returns
+unfolding twoSew operation
+returns c =
+    let at-operate = c .before .before .before .before .before .before .before .before in
+    at-operate .operate .ensures
 
 pub two-sew-spec : {M : Type 1} → statement M
 two-sew-spec =
     tie.close
     (tie.spec
-    vertex-loans-requires
-    guard-requires
-    is-done-requires
+    operate-requires
     same-length
-    returns
-    two-sew-done-requires
     same-length-2
     same-length-3
     same-length-4
-    same-length-5
-    returns-2)
+    returns)

@@ -30,8 +30,11 @@ returns-2 c =
     let at-vertex-item = c .before .before .before .before in
     let at-far-of = at-vertex-item .before .before .before in
     let at-if1 = at-far-of .before in
-    let at-beta-at = at-if1 .before in
-    (open-some _ _ _ (at-beta-at .beta-at .ensures) _ _ _ (at-if1 .if1 .left) (at-far-of .far-of .ensures .0) (at-vertex-item .vertex-item .ensures .0), at-vertex-item .vertex-item .ensures .1)
+    let at-beta-at = at-if1 .before in (
+      open-some _ _ _ (at-beta-at .beta-at .ensures) _ _ _ (at-if1 .if1 .left) (at-far-of .far-of .ensures .0)
+          (at-vertex-item .vertex-item .ensures .0),
+      at-vertex-item .vertex-item .ensures .1,
+    )
 
 pub open-item-spec : {M : Type 1} → statement M
 open-item-spec =

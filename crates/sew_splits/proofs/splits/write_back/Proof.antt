@@ -28,7 +28,13 @@ write-leg-requires c κs =
       rw (at-beta-at .beta-at .ensures) (entry .pre .0 .below _ _),
       rw (c .before .before .before .beta-at2 .ensures) (entry .pre .0 .below _ _),
       entry .pre .3,
-      omega (arith, entry .pre .4, ap (λ x. length x) (back-some (entry .args .rows .now) (entry .args .ld) (entry .args .rd) (entry .args .opened) (at-beta-at .beta-at .result) (c .before .before .before .beta-at2 .result) (not-false _ (at-if1 .if1 .left)) (at-beta-at .beta-at .ensures) (c .before .before .before .beta-at2 .ensures))),
+      omega (
+        arith,
+        entry .pre .4,
+        ap (λ x. length x) (back-some (entry .args .rows .now) (entry .args .ld) (entry .args .rd) (entry .args .opened)
+            (at-beta-at .beta-at .result) (c .before .before .before .beta-at2 .result) (not-false _ (at-if1 .if1 .left)) (at-beta-at .beta-at .ensures)
+            (c .before .before .before .beta-at2 .ensures)),
+      ),
     )
 
 same-length : tie.Need-same-length
@@ -46,7 +52,8 @@ returns-2 c =
     let at-beta-at2 = at-write-leg .before .before .before .before in
     let at-beta-at = at-beta-at2 .before in
     let at-if1 = at-beta-at .before in (
-      back-written _ _ _ _ _ _ _ _ _ _ (not-false _ (at-if1 .if1 .left)) (at-beta-at .beta-at .ensures) (at-beta-at2 .beta-at2 .ensures) (at-write-leg .write-leg .ensures .0 .0) (at-write-leg .write-leg .ensures .0 .1),
+      back-written _ _ _ _ _ _ _ _ _ _ (not-false _ (at-if1 .if1 .left)) (at-beta-at .beta-at .ensures) (at-beta-at2 .beta-at2 .ensures)
+          (at-write-leg .write-leg .ensures .0 .0) (at-write-leg .write-leg .ensures .0 .1),
       at-write-leg .write-leg .ensures .1,
     )
 

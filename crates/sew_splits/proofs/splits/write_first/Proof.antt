@@ -2,7 +2,7 @@
 use native.Mathlib.Omega.{arith}
 use mathlib.Core.Path.{ap, _∙_}
 use lib.ListN.{length}
-use Rattle.sew_ground.proofs.SideLaws.{scratch-same}
+use Rattle.sew_ground.proofs.SideLaws.{clean-same}
 use Rattle.sew_pairs.proofs.SplitLaws.{first-is, written-next}
 use borrow.Author.Needs.{needs}
 use Rattle.sew_splits.proofs.splits.write_first.Statement.{statement}
@@ -29,8 +29,16 @@ write-leg-requires c κs =
       omega arith,
       rw (at-beta-at .beta-at .ensures) (entry .pre .0 .below _ _),
       rw (c .before .before .before .beta-at2 .ensures) (entry .pre .0 .below _ _),
-      scratch-same _ _ _ _ _ (entry .pre .3) (at-write-pair .write-pair .ensures .1 .0) (at-write-pair .write-pair .ensures .1 .1),
-      omega (arith, entry .pre .4, at-write-pair .write-pair .ensures .0 .0, at-write-pair .write-pair .kept .1 .1 .1 .0, ap (λ x. length x) (first-is (entry .args .rows .now) (entry .args .ld) (entry .args .rd) (at-beta-at .beta-at .result) (c .before .before .before .beta-at2 .result) (at-beta-at .beta-at .ensures) (c .before .before .before .beta-at2 .ensures))),
+      clean-same _ _ _ _ _ (entry .pre .3) (at-write-pair .write-pair .ensures .1 .0) (at-write-pair .write-pair .ensures .1 .1),
+      omega (
+        arith,
+        entry .pre .4,
+        at-write-pair .write-pair .ensures .0 .0,
+        at-write-pair .write-pair .kept .1 .1 .1 .0,
+        ap (λ x. length x)
+            (first-is (entry .args .rows .now) (entry .args .ld) (entry .args .rd) (at-beta-at .beta-at .result)
+            (c .before .before .before .beta-at2 .result) (at-beta-at .beta-at .ensures) (c .before .before .before .beta-at2 .ensures)),
+      ),
     )
 
 same-length : tie.Need-same-length
@@ -51,8 +59,14 @@ returns c =
     let at-beta-at2 = at-write-leg .before .before .before .before in
     let at-beta-at = at-beta-at2 .before in
     let at-write-pair = at-beta-at .before .before .before .before .before .before .before in (
-      written-next _ _ _ _ _ _ _ _ _ (at-write-pair .write-pair .ensures .0 .1) (at-write-pair .write-pair .ensures .0 .0) (at-write-leg .write-leg .ensures .0 .1) (at-write-leg .write-leg .ensures .0 .0) (first-is _ _ _ _ _ (at-beta-at .beta-at .ensures) (at-beta-at2 .beta-at2 .ensures)),
-      (at-write-leg .write-leg .ensures .1 .0 ∙ at-write-pair .write-pair .ensures .1 .0, at-write-leg .write-leg .ensures .1 .1 ∙ at-write-pair .write-pair .ensures .1 .1),
+      written-next _ _ _ _ _ _ _ _ _ (at-write-pair .write-pair .ensures .0 .1) (at-write-pair .write-pair .ensures .0 .0)
+          (at-write-leg .write-leg .ensures .0 .1) (at-write-leg .write-leg .ensures .0 .0) (first-is _ _ _ _ _ (at-beta-at .beta-at .ensures)
+          (at-beta-at2 .beta-at2 .ensures)),
+      (
+        at-write-leg .write-leg .ensures .1 .0 ∙ at-write-pair .write-pair .ensures .1 .0,
+        at-write-leg .write-leg .ensures .1 .1
+            ∙ at-write-pair .write-pair .ensures .1 .1,
+      ),
     )
 
 pub write-first-spec : {M : Type 1} → statement M

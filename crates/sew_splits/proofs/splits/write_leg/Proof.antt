@@ -6,7 +6,7 @@ use mathlib.Core.Path.{_≡_, refl, ap, _∙_}
 use lib.ListN.{length}
 use Rattle.map_betas.specs.Betas.{darts}
 use Rattle.sew_ground.specs.Entries.{writtenAll}
-use Rattle.sew_ground.proofs.SideLaws.{scratch-same}
+use Rattle.sew_ground.proofs.SideLaws.{clean-same}
 use Rattle.sew_pairs.specs.Pairs.{entriesFrom}
 use Rattle.sew_pairs.proofs.LegLaws.{entries-over, entries-none}
 use Rattle.sew_pairs.proofs.SplitLaws.{pair-fits, written-turn, leg-ends}
@@ -41,7 +41,15 @@ same-length-3 : tie.Need-same-length-3 Inv-loop μ-loop
 same-length-3 c = c .before .before .before .loop .inv .2
 
 returns : tie.Need-returns Inv-loop μ-loop
-returns c = (leg-ends _ _ _ _ _ (entries-over _ _ _ _ _ _ _ _ (c .before .leg-over .ensures) (c .if1 .taken)) (c .before .before .before .loop .inv .5) (c .before .before .before .loop .inv .6), (c .before .before .before .loop .inv .0, c .before .before .before .loop .inv .1))
+returns c = (
+  leg-ends _ _ _ _ _ (entries-over _ _ _ _ _ _ _ _ (c .before .leg-over .ensures) (c .if1 .taken))
+      (c .before .before .before .loop .inv .5) (c .before .before .before .loop .inv .6),
+  (
+    c .before .before .before .loop .inv .0,
+    c .before .before
+        .before .loop .inv .1,
+  ),
+)
 
 write-pair-requires : tie.Need-write-pair-requires Inv-loop μ-loop
 write-pair-requires c κs =
@@ -52,8 +60,16 @@ write-pair-requires c κs =
       entry .pre .0,
       at-loop .loop .inv .3,
       at-loop .loop .inv .4,
-      scratch-same _ _ _ _ _ (entry .pre .5) (at-loop .loop .inv .0) (at-loop .loop .inv .1),
-      omega (arith, entry .pre .6, at-loop .loop .inv .2, at-loop .loop .inv .5, pair-fits (at-loop .loop .left) (entry .args .rows .now) (entry .args .i) (entry .args .j) (entry .args .stop) (at-loop .loop .l) (at-loop .loop .r) _ (at-leg-over .leg-over .ensures) (omega (arith, at-loop-test .loop-test .taken)) (c .before .before .before .if1 .left)),
+      clean-same _ _ _ _ _ (entry .pre .5) (at-loop .loop .inv .0) (at-loop .loop .inv .1),
+      omega (
+        arith,
+        entry .pre .6,
+        at-loop .loop .inv .2,
+        at-loop .loop .inv .5,
+        pair-fits (at-loop .loop .left) (entry .args .rows .now)
+            (entry .args .i) (entry .args .j) (entry .args .stop) (at-loop .loop .l) (at-loop .loop .r) _ (at-leg-over .leg-over .ensures)
+            (omega (arith, at-loop-test .loop-test .taken)) (c .before .before .before .if1 .left),
+      ),
     )
 
 beta-at-requires : tie.Need-beta-at-requires Inv-loop μ-loop
@@ -86,7 +102,9 @@ loop-again c =
     let at-loop-test = at-leg-over .before in
     let at-loop = at-loop-test .before in
     let entry = at-loop .before .before .before .before .before in
-    let v = written-turn (at-loop .loop .left) _ _ _ _ _ _ _ (at-leg-over .leg-over .ensures) (omega (arith, at-loop-test .loop-test .taken)) (at-if1 .if1 .left) _ _ _ _ _ _ (at-write-pair .write-pair .ensures .0 .1) (at-write-pair .write-pair .ensures .0 .0) (c .before .beta-at .ensures) (c .beta-at2 .ensures) in (
+    let v = written-turn (at-loop .loop .left) _ _ _ _ _ _ _ (at-leg-over .leg-over .ensures) (omega (arith, at-loop-test .loop-test .taken))
+    (at-if1 .if1 .left) _ _ _ _ _ _ (at-write-pair .write-pair .ensures .0 .1) (at-write-pair .write-pair .ensures .0 .0)
+    (c .before .beta-at .ensures) (c .beta-at2 .ensures) in (
       at-write-pair .write-pair .ensures .1 .0 ∙ at-loop .loop .inv .0,
       at-write-pair .write-pair .ensures .1 .1 ∙ at-loop .loop .inv .1,
       at-write-pair .write-pair .kept .1 .1 .1 .0 ∙ at-loop .loop .inv .2,
@@ -106,7 +124,11 @@ same-length-6 : tie.Need-same-length-6 Inv-loop μ-loop
 same-length-6 c = c .before .loop .inv .2
 
 returns-2 : tie.Need-returns-2 Inv-loop μ-loop
-returns-2 c = (leg-ends _ _ _ _ _ (entries-none _ _ _ _ _ _ _ (omega (arith, c .loop-test .left))) (c .before .loop .inv .5) (c .before .loop .inv .6), (c .before .loop .inv .0, c .before .loop .inv .1))
+returns-2 c = (
+  leg-ends _ _ _ _ _ (entries-none _ _ _ _ _ _ _ (omega (arith, c .loop-test .left))) (c .before .loop .inv .5)
+      (c .before .loop .inv .6),
+  (c .before .loop .inv .0, c .before .loop .inv .1),
+)
 
 pub write-leg-spec : {M : Type 1} → statement M
 write-leg-spec =

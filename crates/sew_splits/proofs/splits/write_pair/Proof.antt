@@ -32,7 +32,11 @@ returns : tie.Need-returns
 returns c =
     let at-pair-items = c .before .before .before .before .before .before .before .before in
     let entry = at-pair-items .before .before .before .before .before .before .before in (
-      (c .before .before .put-items .ensures .0 ∙ ap (λ x. entry .args .at + length x) (at-pair-items .pair-items .ensures .0), c .before .before .put-items .ensures .1 ∙ ap (writtenAll (entry .args .plan .now) (entry .args .at)) (at-pair-items .pair-items .ensures .0)),
+      (
+        c .before .before .put-items .ensures .0 ∙ ap (λ x. entry .args .at + length x) (at-pair-items .pair-items .ensures .0),
+        c .before .before
+            .put-items .ensures .1 ∙ ap (writtenAll (entry .args .plan .now) (entry .args .at)) (at-pair-items .pair-items .ensures .0),
+      ),
       at-pair-items .pair-items .ensures .1,
     )
 

@@ -2,7 +2,7 @@
 use native.Mathlib.Omega.{arith}
 use mathlib.Core.Path.{_∙_}
 use lib.ListN.{length-append}
-use Rattle.sew_ground.proofs.SideLaws.{scratch-same}
+use Rattle.sew_ground.proofs.SideLaws.{clean-same}
 use Rattle.sew_pairs.specs.Pairs.{pairEntries}
 use Rattle.sew_pairs.specs.Three.{firstEntries}
 use Rattle.sew_pairs.proofs.SplitLaws.{splits-length, splits-written}
@@ -16,7 +16,12 @@ split-requires c κs = search needs
 write-entry-requires : tie.Need-write-entry-requires
 write-entry-requires c κs =
     let entry = c .before .before .before .before .before .before in
-    omega (arith, entry .pre .4, splits-length (entry .args .rows .now) (entry .args .ld) (entry .args .rd) (entry .args .opened) (entry .args .left) (entry .args .right))
+    omega (
+      arith,
+      entry .pre .4,
+      splits-length (entry .args .rows .now) (entry .args .ld) (entry .args .rd) (entry .args .opened) (entry .args .left)
+          (entry .args .right),
+    )
 
 write-first-requires : tie.Need-write-first-requires
 write-first-requires c κs =
@@ -26,7 +31,13 @@ write-first-requires c κs =
       entry .pre .1,
       entry .pre .2,
       entry .pre .3,
-      omega (arith, entry .pre .4, at-write-entry .write-entry .kept .0, splits-length (entry .args .rows .now) (entry .args .ld) (entry .args .rd) (entry .args .opened) (entry .args .left) (entry .args .right)),
+      omega (
+        arith,
+        entry .pre .4,
+        at-write-entry .write-entry .kept .0,
+        splits-length (entry .args .rows .now) (entry .args .ld) (entry .args .rd)
+            (entry .args .opened) (entry .args .left) (entry .args .right),
+      ),
     )
 
 write-back-requires : tie.Need-write-back-requires
@@ -37,8 +48,19 @@ write-back-requires c κs =
       entry .pre .0,
       entry .pre .1,
       entry .pre .2,
-      scratch-same _ _ _ _ _ (entry .pre .3) (at-write-first .write-first .ensures .1 .0) (at-write-first .write-first .ensures .1 .1),
-      omega (arith, entry .pre .4, at-write-entry .write-entry .kept .0, at-write-first .write-first .kept .1 .1 .1 .0, at-write-first .write-first .ensures .0 .0, length-append (pairEntries (entry .args .rows .now) (entry .args .ld) (entry .args .rd)) (firstEntries (entry .args .rows .now) (entry .args .ld) (entry .args .rd)), splits-length (entry .args .rows .now) (entry .args .ld) (entry .args .rd) (entry .args .opened) (entry .args .left) (entry .args .right)),
+      clean-same _ _ _ _ _ (entry .pre .3) (at-write-first .write-first .ensures .1 .0) (at-write-first .write-first .ensures .1 .1),
+      omega (
+        arith,
+        entry .pre .4,
+        at-write-entry .write-entry .kept .0,
+        at-write-first .write-first .kept .1 .1 .1 .0,
+        at-write-first .write-first
+            .ensures .0 .0,
+        length-append (pairEntries (entry .args .rows .now) (entry .args .ld) (entry .args .rd))
+            (firstEntries (entry .args .rows .now) (entry .args .ld) (entry .args .rd)),
+        splits-length (entry .args .rows .now) (entry .args .ld)
+            (entry .args .rd) (entry .args .opened) (entry .args .left) (entry .args .right),
+      ),
     )
 
 same-length : tie.Need-same-length
@@ -60,8 +82,14 @@ returns c =
     let at-write-first = at-write-back .before .before .before .before .before .before .before .before .before .before in
     let at-write-entry = at-write-first .before .before .before .before .before .before in
     let at-split = at-write-entry .before in (
-      splits-written _ _ _ _ _ _ _ _ _ _ _ _ _ (at-split .split .ensures) (at-write-entry .write-entry .ensures) (at-write-first .write-first .ensures .0 .1) (at-write-first .write-first .ensures .0 .0) (at-write-back .write-back .ensures .0 .1) (at-write-back .write-back .ensures .0 .0),
-      (at-write-back .write-back .ensures .1 .0 ∙ at-write-first .write-first .ensures .1 .0, at-write-back .write-back .ensures .1 .1 ∙ at-write-first .write-first .ensures .1 .1),
+      splits-written _ _ _ _ _ _ _ _ _ _ _ _ _ (at-split .split .ensures) (at-write-entry .write-entry .ensures)
+          (at-write-first .write-first .ensures .0 .1) (at-write-first .write-first .ensures .0 .0) (at-write-back .write-back .ensures .0 .1)
+          (at-write-back .write-back .ensures .0 .0),
+      (
+        at-write-back .write-back .ensures .1 .0 ∙ at-write-first .write-first .ensures .1 .0,
+        at-write-back .write-back .ensures .1 .1
+            ∙ at-write-first .write-first .ensures .1 .1,
+      ),
     )
 
 pub write-splits-spec : {M : Type 1} → statement M

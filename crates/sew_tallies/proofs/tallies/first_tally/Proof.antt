@@ -1,7 +1,7 @@
 -- `tally::first_tally` meets its contract. Assumes nothing.
 use native.Mathlib.Omega.{arith}
 use mathlib.Core.Path.{_∙_}
-use Rattle.sew_ground.proofs.SideLaws.{scratch-same}
+use Rattle.sew_ground.proofs.SideLaws.{clean-same}
 use Rattle.sew_pairs.proofs.SplitLaws.{started}
 use borrow.Author.Needs.{needs}
 use Rattle.sew_tallies.proofs.tallies.first_tally.Statement.{statement}
@@ -30,7 +30,7 @@ tally-leg-requires c κs =
       omega arith,
       rw (c .before .before .before .beta-at .ensures) (entry .pre .0 .below _ _),
       rw (c .before .before .beta-at2 .ensures) (entry .pre .0 .below _ _),
-      scratch-same _ _ _ _ _ (entry .pre .3) (at-pair-count .pair-count .ensures .1 .0) (at-pair-count .pair-count .ensures .1 .1),
+      clean-same _ _ _ _ _ (entry .pre .3) (at-pair-count .pair-count .ensures .1 .0) (at-pair-count .pair-count .ensures .1 .1),
       omega (arith, at-pair-count .pair-count .ensures .0 .1),
     )
 
@@ -46,8 +46,16 @@ returns c =
     let at-beta-at2 = at-tally-leg .before .before .before in
     let at-beta-at = at-beta-at2 .before in
     let at-pair-count = at-beta-at .before .before .before .before .before in (
-      (started _ _ _ _ _ _ _ _ (at-pair-count .pair-count .ensures .0 .0) (at-beta-at .beta-at .ensures) (at-beta-at2 .beta-at2 .ensures) (at-tally-leg .tally-leg .ensures .0 .0), omega (arith, at-tally-leg .tally-leg .ensures .0 .1, at-pair-count .pair-count .ensures .0 .1)),
-      (at-tally-leg .tally-leg .ensures .1 .0 ∙ at-pair-count .pair-count .ensures .1 .0, at-tally-leg .tally-leg .ensures .1 .1 ∙ at-pair-count .pair-count .ensures .1 .1),
+      (
+        started _ _ _ _ _ _ _ _ (at-pair-count .pair-count .ensures .0 .0) (at-beta-at .beta-at .ensures) (at-beta-at2 .beta-at2 .ensures)
+            (at-tally-leg .tally-leg .ensures .0 .0),
+        omega (arith, at-tally-leg .tally-leg .ensures .0 .1, at-pair-count .pair-count .ensures .0 .1),
+      ),
+      (
+        at-tally-leg .tally-leg .ensures .1 .0 ∙ at-pair-count .pair-count .ensures .1 .0,
+        at-tally-leg .tally-leg .ensures .1 .1
+            ∙ at-pair-count .pair-count .ensures .1 .1,
+      ),
     )
 
 pub first-tally-spec : {M : Type 1} → statement M

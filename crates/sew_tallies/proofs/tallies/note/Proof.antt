@@ -10,11 +10,11 @@ pair-count-requires c κs =
     let entry = c .before .before .before .before .before in
     (entry .pre .0, entry .pre .3, entry .pre .4, entry .pre .5)
 
-lesser-of-requires : tie.Need-lesser-of-requires
-lesser-of-requires c κs = search needs
+lesser-requires : tie.Need-lesser-requires
+lesser-requires c κs = search needs
 
-lesser-of-requires-2 : tie.Need-lesser-of-requires-2
-lesser-of-requires-2 c κs = search needs
+lesser-requires-2 : tie.Need-lesser-requires-2
+lesser-requires-2 c κs = search needs
 
 add-t17 : tie.Need-add-t17
 add-t17 c =
@@ -40,9 +40,13 @@ same-length-2 c = search needs
 
 returns : tie.Need-returns
 returns c =
-    let at-lesser-of = c .before .before .before .before in
-    let at-pair-count = at-lesser-of .before .before .before .before .before in (
-      (noted _ _ _ _ _ _ _ _ _ _ (at-lesser-of .lesser-of .ensures) (c .before .before .before .lesser-of2 .ensures) (at-pair-count .pair-count .ensures .0 .0) (c .before .beta-at .ensures) (c .beta-at2 .ensures), omega (arith, at-pair-count .pair-count .ensures .0 .1)),
+    let at-lesser = c .before .before .before .before in
+    let at-pair-count = at-lesser .before .before .before .before .before in (
+      (
+        noted _ _ _ _ _ _ _ _ _ _ (at-lesser .lesser .ensures) (c .before .before .before .lesser2 .ensures) (at-pair-count .pair-count .ensures .0 .0)
+            (c .before .beta-at .ensures) (c .beta-at2 .ensures),
+        omega (arith, at-pair-count .pair-count .ensures .0 .1),
+      ),
       at-pair-count .pair-count .ensures .1,
     )
 
@@ -51,8 +55,8 @@ note-spec =
     tie.close
     (tie.spec
     pair-count-requires
-    lesser-of-requires
-    lesser-of-requires-2
+    lesser-requires
+    lesser-requires-2
     add-t17
     beta-at-requires
     beta-at-requires-2

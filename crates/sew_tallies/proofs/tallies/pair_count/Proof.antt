@@ -25,8 +25,10 @@ same-length-2 c = search needs
 returns-2 : tie.Need-returns-2
 returns-2 c =
     let at-pair-items = c .before .before .before .before .before in
-    let at-if1 = at-pair-items .before .before .before in
-    ((pair-exact _ _ _ _ _ _ (not-false _ (at-if1 .if1 .left)) (c .count .ensures .0) (at-pair-items .pair-items .ensures .0), c .count .ensures .1), at-pair-items .pair-items .ensures .1)
+    let at-if1 = at-pair-items .before .before .before in (
+      (pair-exact _ _ _ _ _ _ (not-false _ (at-if1 .if1 .left)) (c .count .ensures .0) (at-pair-items .pair-items .ensures .0), c .count .ensures .1),
+      at-pair-items .pair-items .ensures .1,
+    )
 
 pub pair-count-spec : {M : Type 1} → statement M
 pair-count-spec =

@@ -5,7 +5,7 @@ use Prim.Native.Nat.{_+_, _*_, _<_, _≤_}
 use mathlib.Core.Path.{_≡_, refl, ap, _∙_}
 use lib.ListN.{length}
 use Rattle.map_betas.specs.Betas.{darts}
-use Rattle.sew_ground.proofs.SideLaws.{scratch-same}
+use Rattle.sew_ground.proofs.SideLaws.{clean-same}
 use Rattle.sew_pairs.specs.Pairs.{tallyFrom}
 use Rattle.sew_pairs.proofs.LegLaws.{tally-over, tally-next, tally-none, tallied-below}
 use borrow.Author.Needs.{needs}
@@ -33,13 +33,35 @@ same-length-2 : tie.Need-same-length-2 Inv-loop μ-loop
 same-length-2 c = ap length (c .before .before .before .loop .inv .1)
 
 returns : tie.Need-returns Inv-loop μ-loop
-returns c = ((tally-over _ _ _ _ _ _ _ _ (c .before .leg-over .ensures) (c .if1 .taken) ∙ c .before .before .before .loop .inv .5, omega (arith, c .before .before .before .loop .inv .4)), (c .before .before .before .loop .inv .0, c .before .before .before .loop .inv .1))
+returns c = (
+  (
+    tally-over _ _ _ _ _ _ _ _ (c .before .leg-over .ensures) (c .if1 .taken)
+        ∙ c .before .before .before .loop .inv .5,
+    omega (arith, c .before .before .before .loop .inv .4),
+  ),
+  (c .before .before .before .loop .inv .0, c .before .before .before .loop .inv .1),
+)
 
 note-requires : tie.Need-note-requires Inv-loop μ-loop
 note-requires c κs =
     let at-loop = c .before .before .before .before .before in
-    let entry = at-loop .before .before .before .before in
-    (entry .pre .0, entry .pre .1, entry .pre .2, at-loop .loop .inv .2, at-loop .loop .inv .3, scratch-same _ _ _ _ _ (entry .pre .5) (at-loop .loop .inv .0) (at-loop .loop .inv .1), omega (arith, at-loop .loop .inv .4, entry .pre .6, entry .pre .0 .sized .whole, entry .pre .0 .sized .few))
+    let entry = at-loop .before .before .before .before in (
+      entry .pre .0,
+      entry .pre .1,
+      entry .pre .2,
+      at-loop .loop .inv .2,
+      at-loop .loop .inv .3,
+      clean-same _ _ _ _ _ (entry .pre .5)
+          (at-loop .loop .inv .0) (at-loop .loop .inv .1),
+      omega (
+        arith,
+        at-loop .loop .inv .4,
+        entry .pre .6,
+        entry .pre .0 .sized .whole,
+        entry .pre .0
+            .sized .few,
+      ),
+    )
 
 sub-left : tie.Need-sub-left Inv-loop μ-loop
 sub-left c = omega arith
@@ -61,7 +83,8 @@ loop-again c =
       b .0,
       b .1,
       omega (arith, at-loop .loop .inv .4, at-note .note .ensures .0 .1, at-loop-test .loop-test .taken),
-      tally-next _ _ _ _ _ _ _ _ (at-leg-over .leg-over .ensures) _ (omega (arith, at-loop-test .loop-test .taken)) (at-if1 .if1 .left) (at-note .note .ensures .0 .0) ∙ at-loop .loop .inv .5,
+      tally-next _ _ _ _ _ _ _ _ (at-leg-over .leg-over .ensures) _ (omega (arith, at-loop-test .loop-test .taken)) (at-if1 .if1 .left)
+          (at-note .note .ensures .0 .0) ∙ at-loop .loop .inv .5,
     )
 
 same-length-3 : tie.Need-same-length-3 Inv-loop μ-loop
@@ -71,7 +94,10 @@ same-length-4 : tie.Need-same-length-4 Inv-loop μ-loop
 same-length-4 c = ap length (c .before .loop .inv .1)
 
 returns-2 : tie.Need-returns-2 Inv-loop μ-loop
-returns-2 c = ((tally-none _ _ _ _ _ _ _ (omega (arith, c .loop-test .left)) ∙ c .before .loop .inv .5, omega (arith, c .before .loop .inv .4)), (c .before .loop .inv .0, c .before .loop .inv .1))
+returns-2 c = (
+  (tally-none _ _ _ _ _ _ _ (omega (arith, c .loop-test .left)) ∙ c .before .loop .inv .5, omega (arith, c .before .loop .inv .4)),
+  (c .before .loop .inv .0, c .before .loop .inv .1),
+)
 
 pub tally-leg-spec : {M : Type 1} → statement M
 tally-leg-spec =

@@ -39,8 +39,11 @@ returns-2 c =
     let at-beta-at2 = at-tally-leg .before .before .before in
     let at-beta-at = at-beta-at2 .before in
     let at-if1 = at-beta-at .before in
-    let entry = at-if1 .before .before .before .before .before in
-    (open-tally _ _ _ _ (entry .args .t) _ _ _ (at-if1 .if1 .left) (at-beta-at .beta-at .ensures) (at-beta-at2 .beta-at2 .ensures) (at-tally-leg .tally-leg .ensures .0 .0), at-tally-leg .tally-leg .ensures .1)
+    let entry = at-if1 .before .before .before .before .before in (
+      open-tally _ _ _ _ (entry .args .t) _ _ _ (at-if1 .if1 .left) (at-beta-at .beta-at .ensures) (at-beta-at2 .beta-at2 .ensures)
+          (at-tally-leg .tally-leg .ensures .0 .0),
+      at-tally-leg .tally-leg .ensures .1,
+    )
 
 pub whole-tally-spec : {M : Type 1} → statement M
 whole-tally-spec =

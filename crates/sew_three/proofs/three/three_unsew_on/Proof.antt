@@ -2,7 +2,7 @@
 use native.Mathlib.Omega.{arith}
 use mathlib.Core.Path.{sym, _∙_, refl}
 use borrow.Author.Tests.{not-true, not-false}
-use Rattle.sew_ground.proofs.SideLaws.{scratch-on}
+use Rattle.sew_ground.proofs.SideLaws.{clean-on}
 use Rattle.sew_pairs.proofs.UnsewLaws.{three-refused, three-ready, three-tight, three-done}
 use borrow.Author.Needs.{needs}
 use Rattle.sew_three.proofs.three.three_unsew_on.Statement.{statement}
@@ -22,8 +22,11 @@ same-length c = search needs
 returns : tie.Need-returns
 returns c =
     let at-three-unlink-on = c .before .before .before .before in
-    let entry = at-three-unlink-on .before .before .before .before .before .before in
-    (three-refused _ _ _ _ (at-three-unlink-on .three-unlink-on .ensures) (entry .pre .0) (entry .pre .1) _ (sym (c .before .is-done .ensures) ∙ not-true _ (c .if1 .taken)), (refl, refl))
+    let entry = at-three-unlink-on .before .before .before .before .before .before in (
+      three-refused _ _ _ _ (at-three-unlink-on .three-unlink-on .ensures) (entry .pre .0) (entry .pre .1) _
+          (sym (c .before .is-done .ensures) ∙ not-true _ (c .if1 .taken)),
+      (refl, refl),
+    )
 
 dart-of-requires : tie.Need-dart-of-requires
 dart-of-requires c κs = search needs
@@ -35,8 +38,14 @@ settle-splits-requires c κs =
     let at-is-done = at-if1 .before in
     let at-three-unlink-on = at-is-done .before .before .before in
     let entry = at-three-unlink-on .before .before .before .before .before .before in
-    let h = three-ready _ _ _ _ (at-three-unlink-on .three-unlink-on .ensures) (entry .pre .0) (entry .pre .1) (sym (at-is-done .is-done .ensures) ∙ not-false _ (at-if1 .if1 .left)) _ (at-dart-of .dart-of .ensures) in
-    (h .0, h .2, h .4, scratch-on (entry .args .rows .now) (at-three-unlink-on .three-unlink-on .last .0) _ _ (at-three-unlink-on .three-unlink-on .kept .0) (entry .pre .2))
+    let h = three-ready _ _ _ _ (at-three-unlink-on .three-unlink-on .ensures) (entry .pre .0) (entry .pre .1)
+    (sym (at-is-done .is-done .ensures) ∙ not-false _ (at-if1 .if1 .left)) _ (at-dart-of .dart-of .ensures) in (
+      h .0,
+      h .2,
+      h .4,
+      clean-on (entry .args .rows .now) (at-three-unlink-on .three-unlink-on .last .0) _ _
+          (at-three-unlink-on .three-unlink-on .kept .0) (entry .pre .2),
+    )
 
 is-done-requires-2 : tie.Need-is-done-requires-2
 is-done-requires-2 c κs = search needs
@@ -48,7 +57,8 @@ three-link-on-requires c κs =
     let at-is-done = at-if1 .before in
     let at-three-unlink-on = at-is-done .before .before .before in
     let entry = at-three-unlink-on .before .before .before .before .before .before in
-    let h = three-ready _ _ _ _ (at-three-unlink-on .three-unlink-on .ensures) (entry .pre .0) (entry .pre .1) (sym (at-is-done .is-done .ensures) ∙ not-false _ (at-if1 .if1 .left)) _ (at-dart-of .dart-of .ensures) in
+    let h = three-ready _ _ _ _ (at-three-unlink-on .three-unlink-on .ensures) (entry .pre .0) (entry .pre .1)
+    (sym (at-is-done .is-done .ensures) ∙ not-false _ (at-if1 .if1 .left)) _ (at-dart-of .dart-of .ensures) in
     (h .0, omega (arith, h .1), omega (arith, h .2), omega (arith, h .1, h .3), omega (arith, h .2, h .4))
 
 same-length-2 : tie.Need-same-length-2
@@ -73,7 +83,10 @@ returns-2 c =
     let at-is-done = at-if1 .before in
     let at-three-unlink-on = at-is-done .before .before .before in
     let entry = at-three-unlink-on .before .before .before .before .before .before in (
-      three-tight _ _ _ _ (at-three-unlink-on .three-unlink-on .ensures) (entry .pre .0) (entry .pre .1) (sym (at-is-done .is-done .ensures) ∙ not-false _ (at-if1 .if1 .left)) _ (at-dart-of .dart-of .ensures) _ _ _ (at-settle-splits .settle-splits .ensures .0) _ _ (c .before .before .three-link-on .ensures) (sym (at-is-done2 .is-done2 .ensures) ∙ not-true _ (at-if2 .if2 .taken)),
+      three-tight _ _ _ _ (at-three-unlink-on .three-unlink-on .ensures) (entry .pre .0) (entry .pre .1)
+          (sym (at-is-done .is-done .ensures) ∙ not-false _ (at-if1 .if1 .left)) _ (at-dart-of .dart-of .ensures) _ _ _
+          (at-settle-splits .settle-splits .ensures .0) _ _ (c .before .before .three-link-on .ensures)
+          (sym (at-is-done2 .is-done2 .ensures) ∙ not-true _ (at-if2 .if2 .taken)),
       at-settle-splits .settle-splits .ensures .1,
     )
 
@@ -97,7 +110,9 @@ returns-3 c =
     let at-is-done = at-if1 .before in
     let at-three-unlink-on = at-is-done .before .before .before in
     let entry = at-three-unlink-on .before .before .before .before .before .before in (
-      three-done _ _ _ _ (at-three-unlink-on .three-unlink-on .ensures) (entry .pre .0) (entry .pre .1) (sym (at-is-done .is-done .ensures) ∙ not-false _ (at-if1 .if1 .left)) _ (at-dart-of .dart-of .ensures) _ _ _ (at-settle-splits .settle-splits .ensures .0) (sym (c .before .is-done2 .ensures) ∙ not-false _ (c .if2 .left)),
+      three-done _ _ _ _ (at-three-unlink-on .three-unlink-on .ensures) (entry .pre .0) (entry .pre .1)
+          (sym (at-is-done .is-done .ensures) ∙ not-false _ (at-if1 .if1 .left)) _ (at-dart-of .dart-of .ensures) _ _ _
+          (at-settle-splits .settle-splits .ensures .0) (sym (c .before .is-done2 .ensures) ∙ not-false _ (c .if2 .left)),
       at-settle-splits .settle-splits .ensures .1,
     )
 

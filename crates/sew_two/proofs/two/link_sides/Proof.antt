@@ -10,7 +10,8 @@ use Rattle.sew_two.proofs.two.link_sides.Statement.{statement}
 use Rattle.sew_two.proofs.two.link_sides.Tie as tie
 
 link-core-requires : tie.Need-link-core-requires
-link-core-requires c κs = asks-link _ 2 _ _ (c .before .before .before .pre .0) (omega arith) (omega arith) (c .before .before .before .pre .1 .below) (c .before .before .before .pre .2 .below)
+link-core-requires c κs = asks-link _ 2 _ _ (c .before .before .before .pre .0) (omega arith) (omega arith) (c .before .before .before .pre .1 .below)
+    (c .before .before .before .pre .2 .below)
 
 is-done-requires : tie.Need-is-done-requires
 is-done-requires c κs = search needs
@@ -36,7 +37,8 @@ unlink-core-requires : tie.Need-unlink-core-requires
 unlink-core-requires c κs =
     let at-link-core = c .before .before .before .before .before .before .before .before .before .before .before .before in
     let entry = at-link-core .before .before .before .before in
-    asks-unlink _ 2 _ (core-linked _ 2 _ _ _ _ (entry .pre .0) (omega arith) (omega arith) (entry .pre .1) (entry .pre .2) (at-link-core .link-core .ensures)) (omega arith)
+    asks-unlink _ 2 _ (core-linked _ 2 _ _ _ _ (entry .pre .0) (omega arith) (omega arith) (entry .pre .1) (entry .pre .2)
+    (at-link-core .link-core .ensures)) (omega arith)
     (omega arith) (omega (arith, entry .pre .1 .below, at-link-core .link-core .kept .0))
 
 same-length-2 : tie.Need-same-length-2
@@ -55,8 +57,10 @@ returns-2 c =
     let at-is-done = at-if1 .before in
     let at-link-core = at-is-done .before .before .before in
     let entry = at-link-core .before .before .before .before in
-    sides-tight _ _ _ _ _ _ _ _ (at-link-core .link-core .ensures) (entry .pre .0) (entry .pre .1) (entry .pre .2) (sym (at-is-done .is-done .ensures) ∙ not-false _ (at-if1 .if1 .left)) _
-    (at-two-items .two-items .ensures) _ _ (at-settle .settle .ensures) _ _ (c .before .before .unlink-core .ensures) (sym (at-is-done2 .is-done2 .ensures) ∙ not-true _ (at-if2 .if2 .taken))
+    sides-tight _ _ _ _ _ _ _ _ (at-link-core .link-core .ensures) (entry .pre .0) (entry .pre .1) (entry .pre .2)
+    (sym (at-is-done .is-done .ensures) ∙ not-false _ (at-if1 .if1 .left)) _
+    (at-two-items .two-items .ensures) _ _ (at-settle .settle .ensures) _ _ (c .before .before .unlink-core .ensures)
+    (sym (at-is-done2 .is-done2 .ensures) ∙ not-true _ (at-if2 .if2 .taken))
 
 same-length-4 : tie.Need-same-length-4
 same-length-4 c = search needs
@@ -72,7 +76,8 @@ returns-3 c =
     let at-is-done = at-if1 .before in
     let at-link-core = at-is-done .before .before .before in
     let entry = at-link-core .before .before .before .before in
-    sides-done _ _ _ _ _ _ _ _ (at-link-core .link-core .ensures) (entry .pre .0) (entry .pre .1) (entry .pre .2) (sym (at-is-done .is-done .ensures) ∙ not-false _ (at-if1 .if1 .left)) _
+    sides-done _ _ _ _ _ _ _ _ (at-link-core .link-core .ensures) (entry .pre .0) (entry .pre .1) (entry .pre .2)
+    (sym (at-is-done .is-done .ensures) ∙ not-false _ (at-if1 .if1 .left)) _
     (at-two-items .two-items .ensures) _ _ (at-settle .settle .ensures) (sym (c .before .is-done2 .ensures) ∙ not-false _ (c .if2 .left))
 
 pub link-sides-spec : {M : Type 1} → statement M

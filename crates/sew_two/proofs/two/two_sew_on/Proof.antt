@@ -1,6 +1,6 @@
 -- `two::two_sew_on` meets its contract: the geometry test, then the link of the two sides. Assumes nothing.
 use mathlib.Core.Path.{_∙_}
-use Rattle.sew_ground.proofs.SideLaws.{scratch-same, near-below, end-below, slot-lent}
+use Rattle.sew_ground.proofs.SideLaws.{clean-same, near-below, end-below, slot-lent}
 use Rattle.sew_ground.proofs.EndLaws.{two-sew-bad, two-sew-good}
 use borrow.Author.Needs.{needs}
 use Rattle.sew_two.proofs.two.two_sew_on.Statement.{statement}
@@ -14,8 +14,12 @@ side-at-requires c κs =
 side-at-requires-2 : tie.Need-side-at-requires-2
 side-at-requires-2 c κs =
     let at-side-at = c .before .before .before .before .before .before .before in
-    let entry = at-side-at .before .before .before .before .before .before .before .before .before .before in
-    (entry .pre .0 .0, entry .pre .0 .2 .below, scratch-same _ _ _ _ _ (entry .pre .0 .3) (at-side-at .side-at .ensures .1 .0) (at-side-at .side-at .ensures .1 .1))
+    let entry = at-side-at .before .before .before .before .before .before .before .before .before .before in (
+      entry .pre .0 .0,
+      entry .pre .0 .2 .below,
+      clean-same _ _ _ _ _ (entry .pre .0 .3) (at-side-at .side-at .ensures .1 .0)
+          (at-side-at .side-at .ensures .1 .1),
+    )
 
 bad-geometry-requires : tie.Need-bad-geometry-requires
 bad-geometry-requires c κs =
@@ -27,8 +31,14 @@ bad-geometry-requires c κs =
     let x = entry .pre .1 .1 in
     let hl = entry .pre .0 .1 .below in
     let hr = entry .pre .0 .2 .below in (
-      (slot-lent _ _ (entry .args .vertices .now) (entry .args .coordinates .now) (near-below _ _ _ w hl (at-side-at .side-at .ensures .0)) v x, slot-lent _ _ (entry .args .vertices .now) (entry .args .coordinates .now) (end-below _ _ _ w hr (at-side-at2 .side-at2 .ensures .0)) v x),
-      (slot-lent _ _ (entry .args .vertices .now) (entry .args .coordinates .now) (end-below _ _ _ w hl (at-side-at .side-at .ensures .0)) v x, slot-lent _ _ (entry .args .vertices .now) (entry .args .coordinates .now) (near-below _ _ _ w hr (at-side-at2 .side-at2 .ensures .0)) v x),
+      (
+        slot-lent _ _ (entry .args .vertices .now) (entry .args .coordinates .now) (near-below _ _ _ w hl (at-side-at .side-at .ensures .0)) v x,
+        slot-lent _ _ (entry .args .vertices .now) (entry .args .coordinates .now) (end-below _ _ _ w hr (at-side-at2 .side-at2 .ensures .0)) v x,
+      ),
+      (
+        slot-lent _ _ (entry .args .vertices .now) (entry .args .coordinates .now) (end-below _ _ _ w hl (at-side-at .side-at .ensures .0)) v x,
+        slot-lent _ _ (entry .args .vertices .now) (entry .args .coordinates .now) (near-below _ _ _ w hr (at-side-at2 .side-at2 .ensures .0)) v x,
+      ),
     )
 
 same-length : tie.Need-same-length
@@ -50,7 +60,8 @@ returns c =
 
 link-sides-requires : tie.Need-link-sides-requires
 link-sides-requires c κs =
-    let entry = c .before .before .before .before .before .before .before .before .before .before .before .before .before .before .before .before .before .before .before .before .before .before .before .before .before .before in
+    let entry = c .before .before .before .before .before .before .before .before .before .before .before .before .before .before .before .before
+    .before .before .before .before .before .before .before .before .before .before in
     (entry .pre .0 .0, entry .pre .0 .1, entry .pre .0 .2)
 
 same-length-4 : tie.Need-same-length-4
@@ -72,7 +83,8 @@ returns-2 c =
     let at-bad-geometry = at-if1 .before in
     let at-side-at2 = at-bad-geometry .before .before .before .before .before in
     let at-side-at = at-side-at2 .before .before .before .before .before .before .before .before in (
-      two-sew-good _ _ _ _ _ _ _ _ (at-side-at .side-at .ensures .0) (at-side-at2 .side-at2 .ensures .0) _ (at-bad-geometry .bad-geometry .ensures) (at-if1 .if1 .left) _ _ _ (at-link-sides .link-sides .ensures),
+      two-sew-good _ _ _ _ _ _ _ _ (at-side-at .side-at .ensures .0) (at-side-at2 .side-at2 .ensures .0) _ (at-bad-geometry .bad-geometry .ensures)
+          (at-if1 .if1 .left) _ _ _ (at-link-sides .link-sides .ensures),
       (at-side-at2 .side-at2 .ensures .1 .0 ∙ at-side-at .side-at .ensures .1 .0, at-side-at2 .side-at2 .ensures .1 .1 ∙ at-side-at .side-at .ensures .1 .1),
     )
 

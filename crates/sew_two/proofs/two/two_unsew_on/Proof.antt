@@ -5,18 +5,20 @@ use borrow.Author.Tests.{not-true, not-false}
 use Rattle.map_betas.specs.Betas.{beta}
 use Rattle.sew_ground.proofs.OneLaws.{asks-link, asks-unlink}
 use Rattle.sew_ground.proofs.OneRows.{core-unlinked}
-use Rattle.sew_ground.proofs.SideLaws.{scratch-same, scratch-on}
+use Rattle.sew_ground.proofs.SideLaws.{clean-same, clean-on}
 use Rattle.sew_ground.proofs.EndLaws.{two-unsew-refused, two-unsew-dart, two-unsew-tight, two-unsew-done}
 use borrow.Author.Needs.{needs}
 use Rattle.sew_two.proofs.two.two_unsew_on.Statement.{statement}
 use Rattle.sew_two.proofs.two.two_unsew_on.Tie as tie
 
 -- the dart that was answered
-answered : (c : tie.After-dart-of) → c .dart-of .result ≡ beta (c .before .before .before .before .before .before .before .before .before .before .before .args .rows .now) 2 (c .before .before .before .before .before .before .before .before .before .before .before .args .ld)
+answered : (c : tie.After-dart-of) → c .dart-of .result ≡ beta (c .before .before .before .before .before .before .before .before .before .before
+    .before .args .rows .now) 2 (c .before .before .before .before .before .before .before .before .before .before .before .args .ld)
 answered c =
     let at-unlink-core = c .before .before .before .before .before in
     let entry = at-unlink-core .before .before .before .before .before .before in
-    two-unsew-dart _ (entry .args .plan .now) _ _ _ (at-unlink-core .unlink-core .ensures) (entry .pre .0) (sym (c .before .before .is-done .ensures) ∙ not-false _ (c .before .if1 .left)) _
+    two-unsew-dart _ (entry .args .plan .now) _ _ _ (at-unlink-core .unlink-core .ensures) (entry .pre .0)
+    (sym (c .before .before .is-done .ensures) ∙ not-false _ (c .before .if1 .left)) _
     (c .dart-of .ensures)
 
 unlink-core-requires : tie.Need-unlink-core-requires
@@ -44,7 +46,7 @@ side-at-requires c κs =
     let entry = at-unlink-core .before .before .before .before .before .before in (
       core-unlinked _ 2 _ _ _ (entry .pre .0) (omega arith) (omega arith) (at-unlink-core .unlink-core .ensures),
       omega (arith, entry .pre .1 .below, at-unlink-core .unlink-core .kept .0),
-      scratch-on (entry .args .rows .now) (at-unlink-core .unlink-core .last .0) _ _ (at-unlink-core .unlink-core .kept .0) (entry .pre .2),
+      clean-on (entry .args .rows .now) (at-unlink-core .unlink-core .last .0) _ _ (at-unlink-core .unlink-core .kept .0) (entry .pre .2),
     )
 
 side-at-requires-2 : tie.Need-side-at-requires-2
@@ -55,7 +57,8 @@ side-at-requires-2 c κs =
     let entry = at-unlink-core .before .before .before .before .before .before in (
       core-unlinked _ 2 _ _ _ (entry .pre .0) (omega arith) (omega arith) (at-unlink-core .unlink-core .ensures),
       omega (arith, answered back11, entry .pre .0 .below 2 (entry .args .ld), at-unlink-core .unlink-core .kept .0),
-      scratch-same _ _ _ _ _ (scratch-on (entry .args .rows .now) (at-unlink-core .unlink-core .last .0) _ _ (at-unlink-core .unlink-core .kept .0) (entry .pre .2)) (at-side-at .side-at .ensures .1 .0) (at-side-at .side-at .ensures .1 .1),
+      clean-same _ _ _ _ _ (clean-on (entry .args .rows .now) (at-unlink-core .unlink-core .last .0) _ _ (at-unlink-core .unlink-core .kept .0)
+          (entry .pre .2)) (at-side-at .side-at .ensures .1 .0) (at-side-at .side-at .ensures .1 .1),
     )
 
 two-items-requires : tie.Need-two-items-requires
@@ -69,7 +72,8 @@ is-done-requires-2 c κs = search needs
 
 link-core-requires : tie.Need-link-core-requires
 link-core-requires c κs =
-    let back24 = c .before .before .before .before .before .before .before .before .before .before .before .before .before .before .before .before .before .before .before .before .before .before .before .before in
+    let back24 = c .before .before .before .before .before .before .before .before .before .before .before .before .before .before .before .before
+    .before .before .before .before .before .before .before .before in
     let at-unlink-core = back24 .before .before .before .before .before in
     let entry = at-unlink-core .before .before .before .before .before .before in
     asks-link _ 2 _ _ (core-unlinked _ 2 _ _ _ (entry .pre .0) (omega arith) (omega arith) (at-unlink-core .unlink-core .ensures)) (omega arith) (omega arith)
@@ -78,7 +82,8 @@ link-core-requires c κs =
 
 same-length-2 : tie.Need-same-length-2
 same-length-2 c =
-    let at-unlink-core = c .before .before .before .before .before .before .before .before .before .before .before .before .before .before .before .before .before .before .before .before .before .before .before .before .before .before .before .before .before .before .before .before in
+    let at-unlink-core = c .before .before .before .before .before .before .before .before .before .before .before .before .before .before .before
+    .before .before .before .before .before .before .before .before .before .before .before .before .before .before .before .before .before in
     c .before .before .link-core .kept .0 ∙ at-unlink-core .unlink-core .kept .0
 
 same-length-3 : tie.Need-same-length-3
@@ -103,15 +108,18 @@ returns-2 c =
     let at-is-done = at-if1 .before in
     let at-unlink-core = at-is-done .before .before .before in
     let entry = at-unlink-core .before .before .before .before .before .before in (
-      two-unsew-tight _ _ _ _ _ (at-unlink-core .unlink-core .ensures) (entry .pre .0) (sym (at-is-done .is-done .ensures) ∙ not-false _ (at-if1 .if1 .left)) _ (at-dart-of .dart-of .ensures) _ _
-          (at-side-at .side-at .ensures .0) (at-side-at2 .side-at2 .ensures .0) _ (at-two-items .two-items .ensures) _ _ (at-settle .settle .ensures) _ _ (c .before .before .link-core .ensures)
+      two-unsew-tight _ _ _ _ _ (at-unlink-core .unlink-core .ensures) (entry .pre .0) (sym (at-is-done .is-done .ensures)
+          ∙ not-false _ (at-if1 .if1 .left)) _ (at-dart-of .dart-of .ensures) _ _
+          (at-side-at .side-at .ensures .0) (at-side-at2 .side-at2 .ensures .0) _ (at-two-items .two-items .ensures) _ _ (at-settle .settle .ensures)
+          _ _ (c .before .before .link-core .ensures)
           (sym (at-is-done2 .is-done2 .ensures) ∙ not-true _ (at-if2 .if2 .taken)),
       (at-side-at2 .side-at2 .ensures .1 .0 ∙ at-side-at .side-at .ensures .1 .0, at-side-at2 .side-at2 .ensures .1 .1 ∙ at-side-at .side-at .ensures .1 .1),
     )
 
 same-length-6 : tie.Need-same-length-6
 same-length-6 c =
-    let at-unlink-core = c .before .before .before .before .before .before .before .before .before .before .before .before .before .before .before .before .before .before .before .before .before .before .before .before .before .before .before .before in
+    let at-unlink-core = c .before .before .before .before .before .before .before .before .before .before .before .before .before .before .before
+    .before .before .before .before .before .before .before .before .before .before .before .before .before in
     at-unlink-core .unlink-core .kept .0
 
 same-length-7 : tie.Need-same-length-7
@@ -134,8 +142,10 @@ returns-3 c =
     let at-is-done = at-if1 .before in
     let at-unlink-core = at-is-done .before .before .before in
     let entry = at-unlink-core .before .before .before .before .before .before in (
-      two-unsew-done _ _ _ _ _ (at-unlink-core .unlink-core .ensures) (entry .pre .0) (sym (at-is-done .is-done .ensures) ∙ not-false _ (at-if1 .if1 .left)) _ (at-dart-of .dart-of .ensures) _ _
-          (at-side-at .side-at .ensures .0) (at-side-at2 .side-at2 .ensures .0) _ (at-two-items .two-items .ensures) _ _ (at-settle .settle .ensures) (sym (c .before .is-done2 .ensures) ∙ not-false _ (c .if2 .left)),
+      two-unsew-done _ _ _ _ _ (at-unlink-core .unlink-core .ensures) (entry .pre .0) (sym (at-is-done .is-done .ensures)
+          ∙ not-false _ (at-if1 .if1 .left)) _ (at-dart-of .dart-of .ensures) _ _
+          (at-side-at .side-at .ensures .0) (at-side-at2 .side-at2 .ensures .0) _ (at-two-items .two-items .ensures) _ _ (at-settle .settle .ensures)
+          (sym (c .before .is-done2 .ensures) ∙ not-false _ (c .if2 .left)),
       (at-side-at2 .side-at2 .ensures .1 .0 ∙ at-side-at .side-at .ensures .1 .0, at-side-at2 .side-at2 .ensures .1 .1 ∙ at-side-at .side-at .ensures .1 .1),
     )
 

@@ -1,6 +1,6 @@
 -- `answers` is safe and ends. Assumes nothing.
 use borrow.Author.Needs.{needs}
-use Prim.Native.Nat.{_≤_, _-_}
+use Prim.Native.Nat.{_-_, _≤_}
 use Rattle.test_replay.proofs.report.answers.Statement.{statement}
 use Rattle.test_replay.proofs.report.answers.Tie as tie
 
@@ -12,6 +12,12 @@ abbrev μ-loop : tie.MeasureT-loop
 
 loop-holds : tie.Need-loop-holds Inv-loop μ-loop
 loop-holds c = search needs
+
+mul-number-line : tie.Need-mul-number-line Inv-loop μ-loop
+mul-number-line c = search needs
+
+element-copy-out-number-line : tie.Need-element-copy-out-number-line Inv-loop μ-loop
+element-copy-out-number-line c = search needs
 
 number-line-requires : tie.Need-number-line-requires Inv-loop μ-loop
 number-line-requires c κs = search needs
@@ -31,4 +37,14 @@ returns c = search needs
 pub answers-spec : {M : Type 1} → statement M
 answers-spec =
     tie.close
-    (tie.spec Inv-loop μ-loop loop-holds number-line-requires add-i loop-less loop-again returns)
+    (tie.spec
+    Inv-loop
+    μ-loop
+    loop-holds
+    mul-number-line
+    element-copy-out-number-line
+    number-line-requires
+    add-i
+    loop-less
+    loop-again
+    returns)

@@ -1,20 +1,41 @@
 -- `operations` is safe and ends. Assumes nothing.
 use borrow.Author.Needs.{needs}
-use Prim.Native.Nat.{_≤_, _-_}
+use Prim.Native.Nat.{_-_, _≤_}
 use Rattle.test_replay.proofs.report.operations.Statement.{statement}
 use Rattle.test_replay.proofs.report.operations.Tie as tie
 
 abbrev Inv-loop : tie.InvT-loop
-Inv-loop agree i₀ i = i ≤ 31
+Inv-loop agree i₀ t3 t4 i = i ≤ 30
 
 abbrev μ-loop : tie.MeasureT-loop
-μ-loop agree i₀ i = 31 - i
+μ-loop agree i₀ t3 t4 i = 30 - i
 
 loop-holds : tie.Need-loop-holds Inv-loop μ-loop
 loop-holds c = search needs
 
-operation-line-requires : tie.Need-operation-line-requires Inv-loop μ-loop
-operation-line-requires c κs = search needs
+put-name-requires : tie.Need-put-name-requires Inv-loop μ-loop
+put-name-requires c κs = search needs
+
+slice-aggregate-put-count : tie.Need-slice-aggregate-put-count Inv-loop μ-loop
+slice-aggregate-put-count c = search needs
+
+add-put-count : tie.Need-add-put-count Inv-loop μ-loop
+add-put-count c = search needs
+
+mul-put-count : tie.Need-mul-put-count Inv-loop μ-loop
+mul-put-count c = search needs
+
+element-copy-out-put-count : tie.Need-element-copy-out-put-count Inv-loop μ-loop
+element-copy-out-put-count c = search needs
+
+put-count-requires : tie.Need-put-count-requires Inv-loop μ-loop
+put-count-requires c κs = search needs
+
+slice-aggregate-put : tie.Need-slice-aggregate-put Inv-loop μ-loop
+slice-aggregate-put c = search needs
+
+put-requires : tie.Need-put-requires Inv-loop μ-loop
+put-requires c κs = search needs
 
 add-i : tie.Need-add-i Inv-loop μ-loop
 add-i c = search needs
@@ -35,7 +56,14 @@ operations-spec =
     Inv-loop
     μ-loop
     loop-holds
-    operation-line-requires
+    put-name-requires
+    slice-aggregate-put-count
+    add-put-count
+    mul-put-count
+    element-copy-out-put-count
+    put-count-requires
+    slice-aggregate-put
+    put-requires
     add-i
     loop-less
     loop-again

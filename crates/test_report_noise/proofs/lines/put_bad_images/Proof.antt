@@ -1,6 +1,6 @@
 -- `put_bad_images` is safe and ends. Assumes nothing.
 use borrow.Author.Needs.{needs}
-use Prim.Native.Nat.{_≤_, _-_}
+use Prim.Native.Nat.{_-_, _≤_}
 use Rattle.test_report_noise.proofs.lines.put_bad_images.Statement.{statement}
 use Rattle.test_report_noise.proofs.lines.put_bad_images.Tie as tie
 
@@ -13,20 +13,17 @@ abbrev μ-loop : tie.MeasureT-loop
 loop-holds : tie.Need-loop-holds Inv-loop μ-loop
 loop-holds c = search needs
 
-slice-aggregate-put : tie.Need-slice-aggregate-put Inv-loop μ-loop
-slice-aggregate-put c = search needs
+slice-aggregate-put-count : tie.Need-slice-aggregate-put-count Inv-loop μ-loop
+slice-aggregate-put-count c = search needs
 
-put-requires : tie.Need-put-requires Inv-loop μ-loop
-put-requires c κs = search needs
+mul-put-count : tie.Need-mul-put-count Inv-loop μ-loop
+mul-put-count c = search needs
 
-mul-put-number : tie.Need-mul-put-number Inv-loop μ-loop
-mul-put-number c = search needs
+element-copy-out-put-count : tie.Need-element-copy-out-put-count Inv-loop μ-loop
+element-copy-out-put-count c = search needs
 
-element-copy-out-put-number : tie.Need-element-copy-out-put-number Inv-loop μ-loop
-element-copy-out-put-number c = search needs
-
-put-number-requires : tie.Need-put-number-requires Inv-loop μ-loop
-put-number-requires c κs = search needs
+put-count-requires : tie.Need-put-count-requires Inv-loop μ-loop
+put-count-requires c κs = search needs
 
 add-i : tie.Need-add-i Inv-loop μ-loop
 add-i c = search needs
@@ -47,11 +44,10 @@ put-bad-images-spec =
     Inv-loop
     μ-loop
     loop-holds
-    slice-aggregate-put
-    put-requires
-    mul-put-number
-    element-copy-out-put-number
-    put-number-requires
+    slice-aggregate-put-count
+    mul-put-count
+    element-copy-out-put-count
+    put-count-requires
     add-i
     loop-less
     loop-again

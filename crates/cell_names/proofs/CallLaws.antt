@@ -1,0 +1,57 @@
+-- The laws of the calls.
+--   id-ready, list-ready        what holds once the guard has passed
+--   ident-face, ident-least, list-face, list-least   the two ways to an identifier and to a list
+-- Assumes nothing.
+use Prim.Native.Nat.{ℕ}
+use mathlib.Core.Path.{_≡_, refl, sym, ap, _∙_}
+use mathlib.Core.Bool.{true, false, true≢false}
+use mathlib.Core.List.{List}
+use lib.ListN.{length}
+use Rattle.map_betas.specs.declared.error.Answer.{Answer}
+use Rattle.map_betas.specs.Betas.{darts}
+use Rattle.map_betas.specs.Answers.{isDone}
+use Rattle.map_betas.specs.Guards.{scratchOf, listLoans, Ready}
+use Rattle.map_betas.proofs.GuardLaws.{ready}
+use Rattle.cell_steps.specs.declared.cells.Class.{Class}
+use Rattle.cell_steps.specs.declared.cells.Class.the-variants.{Vertex, Edge, Face, Volume}
+use Rattle.cell_steps.specs.Steps.{cellSteps}
+use Rattle.cell_steps.specs.Idents.{ident}
+use Rattle.cell_lists.specs.CellLists.{cellsBy, cellList}
+use Rattle.cell_faces.specs.Faces.{faceId}
+use Rattle.cell_names.specs.Cells.{isFace, identOf, listOf}
+use Rattle.cell_names.specs.Calls.{idGuard, listGuard}
+
+pub id-ready : (rows marks queue : List ℕ) (d : ℕ) (g : Answer) → g ≡ idGuard rows marks queue d → isDone g ≡ true →
+    Ready rows (scratchOf (length marks) (length queue)) 0 d d
+id-ready rows marks queue d g e t = ready rows (scratchOf (length marks) (length queue)) 0 d d (ap isDone (sym e) ∙ t)
+
+pub list-ready : (rows marks queue output flags : List ℕ) (g : Answer) → g ≡ listGuard rows marks queue output flags → isDone g ≡ true →
+    Ready rows (listLoans (length marks) (length queue) (length output) (length flags)) 0 0 0
+list-ready rows marks queue output flags g e t =
+    ready rows (listLoans (length marks) (length queue) (length output) (length flags)) 0 0 0 (ap isDone (sym e) ∙ t)
+
+-- the two ways to an identifier and to a list
+module _ (rows : List ℕ) where
+  pub ident-face : (c : Class) (d : ℕ) → isFace c ≡ true → faceId rows d ≡ identOf c rows d
+  ident-face Vertex d e = absurd (true≢false (sym e))
+  ident-face Edge d e = absurd (true≢false (sym e))
+  ident-face Face d e = refl
+  ident-face Volume d e = absurd (true≢false (sym e))
+
+  pub ident-least : (c : Class) (d : ℕ) → isFace c ≡ false → ident rows (cellSteps c) d ≡ identOf c rows d
+  ident-least Vertex d e = refl
+  ident-least Edge d e = refl
+  ident-least Face d e = absurd (true≢false e)
+  ident-least Volume d e = refl
+
+  pub list-face : (c : Class) (flags : List ℕ) → isFace c ≡ true → cellsBy (faceId rows) (darts rows) flags ≡ listOf c rows flags
+  list-face Vertex flags e = absurd (true≢false (sym e))
+  list-face Edge flags e = absurd (true≢false (sym e))
+  list-face Face flags e = refl
+  list-face Volume flags e = absurd (true≢false (sym e))
+
+  pub list-least : (c : Class) (flags : List ℕ) → isFace c ≡ false → cellList rows (cellSteps c) flags ≡ listOf c rows flags
+  list-least Vertex flags e = refl
+  list-least Edge flags e = refl
+  list-least Face flags e = absurd (true≢false e)
+  list-least Volume flags e = refl

@@ -1,0 +1,3 @@
+-- The definitions of what is written.
+--   Content   what an image says
+pub mod Content

@@ -1,0 +1,150 @@
+-- `settling::settle_splits` meets its contract: a tally bounds the entries, which are written where there is room. Assumes nothing.
+use native.Mathlib.Omega.{arith}
+use mathlib.Core.Path.{ap, _∙_}
+use lib.ListN.{length}
+use Rattle.sew_ground.proofs.SewnLaws.{settles-tight}
+use Rattle.sew_ground.proofs.SideLaws.{clean-same}
+use Rattle.sew_pairs.proofs.SplitLaws.{written-done, entries-are, entries-most}
+use borrow.Author.Needs.{needs}
+use Rattle.sew_settling.proofs.settling.settle_splits.Statement.{statement}
+use Rattle.sew_settling.proofs.settling.settle_splits.Tie as tie
+
+first-tally-requires : tie.Need-first-tally-requires
+first-tally-requires c κs =
+    let entry = c .before .before .before .before .before .before in
+    (entry .pre .0, entry .pre .1, entry .pre .2, entry .pre .3)
+
+whole-tally-requires : tie.Need-whole-tally-requires
+whole-tally-requires c κs =
+    let at-first-tally = c .before .before .before .before .before .before in
+    let entry = at-first-tally .before .before .before .before .before .before .before in (
+      entry .pre .0,
+      entry .pre .1,
+      entry .pre .2,
+      clean-same _ _ _ _ _ (entry .pre .3) (at-first-tally .first-tally .ensures .1 .0) (at-first-tally .first-tally .ensures .1 .1),
+      omega (arith, at-first-tally .first-tally .ensures .0 .1, entry .pre .0 .sized .whole, entry .pre .0 .sized .few),
+    )
+
+room-requires : tie.Need-room-requires
+room-requires c κs = search needs
+
+wanted-requires : tie.Need-wanted-requires
+wanted-requires c κs =
+    let at-whole-tally = c .before .before .before .before .before .before .before .before in
+    let at-first-tally = at-whole-tally .before .before .before .before .before .before .before in
+    let entry = at-first-tally .before .before .before .before .before .before .before in (
+      entry .pre .0,
+      entry .pre .1,
+      entry .pre .2,
+      clean-same _ _ _ _ _ (entry .pre .3) (at-whole-tally .whole-tally .ensures .1 .0 ∙ at-first-tally .first-tally .ensures .1 .0)
+          (at-whole-tally .whole-tally .ensures .1 .1 ∙ at-first-tally .first-tally .ensures .1 .1),
+      entries-most _ _ _ _ _ _ (at-first-tally .first-tally .ensures .0 .0) (at-whole-tally .whole-tally .ensures .0),
+    )
+
+same-length : tie.Need-same-length
+same-length c = search needs
+
+same-length-2 : tie.Need-same-length-2
+same-length-2 c = search needs
+
+same-length-3 : tie.Need-same-length-3
+same-length-3 c = search needs
+
+returns : tie.Need-returns
+returns c =
+    let at-wanted = c .before .before .before .before .before in
+    let at-room = at-wanted .before .before .before in
+    let at-whole-tally = at-room .before .before .before .before .before .before in
+    let at-first-tally = at-whole-tally .before .before .before .before .before .before .before in (
+      settles-tight _ _ _ _ (at-wanted .wanted .ensures .0 .1 (omega (arith, c .if1 .taken))) (omega (arith, c .if1 .taken, at-room .room .ensures)),
+      (
+        at-wanted .wanted .ensures .1 .0 ∙ at-whole-tally .whole-tally .ensures .1 .0
+            ∙ at-first-tally .first-tally .ensures .1 .0,
+        at-wanted .wanted .ensures .1 .1 ∙ at-whole-tally .whole-tally .ensures .1 .1
+            ∙ at-first-tally .first-tally .ensures .1 .1,
+      ),
+    )
+
+write-splits-requires : tie.Need-write-splits-requires
+write-splits-requires c κs =
+    let at-if1 = c .before .before .before .before in
+    let at-wanted = at-if1 .before .before .before .before .before in
+    let at-room = at-wanted .before .before .before in
+    let at-whole-tally = at-room .before .before .before .before .before .before in
+    let at-first-tally = at-whole-tally .before .before .before .before .before .before .before in
+    let entry = at-first-tally .before .before .before .before .before .before .before in (
+      entry .pre .0,
+      entry .pre .1,
+      entry .pre .2,
+      clean-same _ _ _ _ _ (entry .pre .3) (at-wanted .wanted .ensures .1 .0 ∙ at-whole-tally .whole-tally .ensures .1 .0
+          ∙ at-first-tally .first-tally .ensures .1 .0) (at-wanted .wanted .ensures .1 .1 ∙ at-whole-tally .whole-tally .ensures .1 .1
+          ∙ at-first-tally .first-tally .ensures .1 .1),
+      omega (
+        arith,
+        at-if1 .if1 .left,
+        at-room .room .ensures,
+        at-wanted .wanted .ensures .0 .0,
+        ap (λ x. length x)
+            (entries-are _ _ _ _ _ _ (at-first-tally .first-tally .ensures .0 .0) (at-whole-tally .whole-tally .ensures .0)),
+      ),
+    )
+
+same-length-4 : tie.Need-same-length-4
+same-length-4 c =
+    let at-write-splits = c .before .before .before .before .before .before in
+    let at-wanted = at-write-splits .before .before .before .before .before .before .before .before .before .before in
+    let at-whole-tally = at-wanted .before .before .before .before .before .before .before .before .before in
+    let at-first-tally = at-whole-tally .before .before .before .before .before .before .before in
+    ap length (at-write-splits .write-splits .ensures .1 .0 ∙ at-wanted .wanted .ensures .1 .0 ∙ at-whole-tally .whole-tally .ensures .1 .0
+    ∙ at-first-tally .first-tally .ensures .1 .0)
+
+same-length-5 : tie.Need-same-length-5
+same-length-5 c =
+    let at-write-splits = c .before .before .before .before .before .before in
+    let at-wanted = at-write-splits .before .before .before .before .before .before .before .before .before .before in
+    let at-whole-tally = at-wanted .before .before .before .before .before .before .before .before .before in
+    let at-first-tally = at-whole-tally .before .before .before .before .before .before .before in
+    ap length (at-write-splits .write-splits .ensures .1 .1 ∙ at-wanted .wanted .ensures .1 .1 ∙ at-whole-tally .whole-tally .ensures .1 .1
+    ∙ at-first-tally .first-tally .ensures .1 .1)
+
+same-length-6 : tie.Need-same-length-6
+same-length-6 c =
+    let at-write-splits = c .before .before .before .before .before .before in
+    at-write-splits .write-splits .kept .1 .1 .1 .0
+
+returns-2 : tie.Need-returns-2
+returns-2 c =
+    let at-write-splits = c .before .before .before .before .before .before in
+    let at-if1 = at-write-splits .before .before .before .before .before in
+    let at-wanted = at-if1 .before .before .before .before .before in
+    let at-room = at-wanted .before .before .before in
+    let at-whole-tally = at-room .before .before .before .before .before .before in
+    let at-first-tally = at-whole-tally .before .before .before .before .before .before .before in (
+      written-done _ _ _ _ _ _ _ (entries-are _ _ _ _ _ _ (at-first-tally .first-tally .ensures .0 .0) (at-whole-tally .whole-tally .ensures .0))
+          (at-write-splits .write-splits .ensures .0 .0) (at-write-splits .write-splits .ensures .0 .1) (at-wanted .wanted .ensures .0 .0)
+          (omega (arith, at-if1 .if1 .left, at-room .room .ensures)),
+      (
+        at-write-splits .write-splits .ensures .1 .0 ∙ at-wanted .wanted .ensures .1 .0 ∙ at-whole-tally .whole-tally .ensures .1 .0
+            ∙ at-first-tally .first-tally .ensures .1 .0,
+        at-write-splits .write-splits .ensures .1 .1 ∙ at-wanted .wanted .ensures .1 .1
+            ∙ at-whole-tally .whole-tally .ensures .1 .1 ∙ at-first-tally .first-tally .ensures .1 .1,
+      ),
+    )
+
+pub settle-splits-spec : {M : Type 1} → statement M
+settle-splits-spec =
+    tie.close
+    (tie.spec
+    first-tally-requires
+    whole-tally-requires
+    room-requires
+    wanted-requires
+    same-length
+    same-length-2
+    same-length-3
+    returns
+    write-splits-requires
+    same-length-4
+    same-length-5
+    same-length-6
+    returns-2)

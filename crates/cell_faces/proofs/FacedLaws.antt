@@ -20,7 +20,7 @@ use Rattle.cell_steps.specs.Cgal.{faceΦ}
 use Rattle.cell_steps.specs.Idents.{ident}
 use Rattle.cell_steps.proofs.CgalLaws.{symmetric, face-serves}
 use Rattle.cell_steps.proofs.IdentLaws.{ident-reached, ident-le, ident-same, ident-one, reach-real, reach-below, reach-symm}
-use Rattle.cell_lists.specs.Joins.{Joined}
+use Rattle.cell_joins.specs.Joins.{Joined}
 use Rattle.cell_faces.specs.Faces.{faceId, Regular}
 use Rattle.cell_faces.specs.FaceLists.{Faced, Apart}
 use Rattle.cell_faces.proofs.RegularLaws.{regular-spread, face-id-least}

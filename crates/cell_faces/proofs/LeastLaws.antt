@@ -40,7 +40,7 @@ low-falls rows x low low′ h p = (le-trans h (p .0), ⊎-elim inl (λ q. inr (l
 
 -- the forward leg from d after t turns
 record At (rows : List ℕ) (d t : ℕ) (w : Walk) : Type 0 where
-  seen-is : w .seen ≡ passed rows t d
+  seen-is : w .seen ≡ passed rows 1 t d
   l-is : w .l ≡ far rows 1 t d
   r-is : w .r ≡ beta rows 3 (far rows 1 t d)
   lows : (u : ℕ) → u ≤ t → Low rows (w .low) (far rows 1 u d)
@@ -49,9 +49,9 @@ module _ (rows : List ℕ) (m : WellFormed rows) (d : ℕ) (lt : d < darts rows)
     (closed : (x : ℕ) → Chain rows d x → beta rows 1 x ≡ 0 → ⊥) where
   pub round : (k : ℕ) × (k < darts rows) × Ends rows 1 d (beta rows 1 d) k × (far rows 1 (suc k) d ≡ d)
   round =
-      let e = chain-ends rows m d lt in
+      let e = chain-ends rows m 1 (lit< tt) d lt in
       let k : ℕ = e .0 in
-      let c : Chain rows d (far rows 1 k d) = chain-far rows m d 1 (lit< tt) k (going-real rows m d real k (e .2 .run) k (omega arith)) in
+      let c : Chain rows d (far rows 1 k d) = chain-far rows m d 1 (lit< tt) k (going-real rows m 1 (lit< tt) d real k (e .2 .run) k (omega arith)) in
       let q : far rows 1 k (beta rows 1 d) ≡ beta rows 1 (far rows 1 k d) = sym (far-suc rows 1 k d) ∙ far-last rows 1 k d in
       (k, e .1, e .2, ⊎-elim (λ z. absurd (closed (far rows 1 k d) c (sym q ∙ z))) (λ r. far-suc rows 1 k d ∙ r) (e .2 .over))
 
@@ -80,7 +80,7 @@ module _ (rows : List ℕ) (m : WellFormed rows) (d : ℕ) (lt : d < darts rows)
 
     module _ (t : ℕ) (h : t ≤ round .0) (w : Walk) (v : At rows d t w) where
       here-real : far rows 1 t d ≢ 0
-      here-real = going-real rows m d real (round .0) (round .2 .run) t h
+      here-real = going-real rows m 1 (lit< tt) d real (round .0) (round .2 .run) t h
 
       here : Chain rows d (far rows 1 t d)
       here = chain-far rows m d 1 (lit< tt) t here-real
@@ -89,7 +89,7 @@ module _ (rows : List ℕ) (m : WellFormed rows) (d : ℕ) (lt : d < darts rows)
       l-real z = here-real (sym (v .l-is) ∙ z)
 
       out : In (w .l) (w .seen) → ⊥
-      out i = not-passed rows m d real (round .0) (round .2 .run) t h (Memᴰ·cast (sym (v .l-is)) (subst (In (w .l)) (v .seen-is) i))
+      out i = not-passed rows m 1 (lit< tt) d real (round .0) (round .2 .run) t h (Memᴰ·cast (sym (v .l-is)) (subst (In (w .l)) (v .seen-is) i))
 
       l′-is : beta rows 1 (w .l) ≡ far rows 1 (suc t) d
       l′-is = ap (beta rows 1) (v .l-is) ∙ sym (far-last rows 1 t d)

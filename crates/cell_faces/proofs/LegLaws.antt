@@ -24,7 +24,7 @@ use Rattle.cell_steps.proofs.Lists.{in-mem, mem-not}
 use Rattle.cell_steps.proofs.SearchLaws.{Added, null, old, new, added}
 use Rattle.cell_steps.proofs.QueueLaws.{queue-n}
 use Rattle.cell_steps.proofs.TurnLaws.{drop-more}
-use Rattle.cell_lists.proofs.PushLaws.{grown-both}
+use Rattle.cell_joins.proofs.PushLaws.{grown-both}
 use Rattle.cell_faces.specs.Faces.{fresh, insert, lower, Walk, turn, leg, forward, backward, faceWalk, Walked}
 
 -- ---- one insertion

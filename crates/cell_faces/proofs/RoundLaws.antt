@@ -26,8 +26,8 @@ use Rattle.cell_steps.proofs.ChainLaws.{going-real, Enough, enough-starts, enou
 use Rattle.cell_steps.proofs.SearchLaws.{Added, null, old, new, added, added-ext, added-has, ext-in}
 use Rattle.cell_steps.proofs.IdentLaws.{reach-real}
 use Rattle.cell_steps.proofs.QueueLaws.{add-null}
-use Rattle.cell_lists.specs.Joins.{Joined}
-use Rattle.cell_lists.proofs.PushLaws.{grown-both}
+use Rattle.cell_joins.specs.Joins.{Joined}
+use Rattle.cell_joins.proofs.PushLaws.{grown-both}
 use Rattle.cell_faces.specs.Faces.{Regular, regular}
 use Rattle.cell_faces.specs.FaceLists.{roundFrom, goRound}
 use Rattle.cell_faces.proofs.LeastLaws.{round, face-of-chain}
@@ -130,7 +130,7 @@ module _ (rows : List ℕ) (d : ℕ) (k : List ℕ) where
         Passed rows d k (suc (loop .0)) (roundFrom rows d f (far rows 1 t d) s)
     goes zero t s h g v = absurd (omega arith)
     goes (suc f) t s h g v =
-        let x-real : far rows 1 t d ≢ 0 = going-real rows m d real (loop .0) (loop .2 .run) t h in
+        let x-real : far rows 1 t d ≢ 0 = going-real rows m 1 (lit< tt) d real (loop .0) (loop .2 .run) t h in
         let p = passed-turn t s x-real (chain-reach rows d (chain-far rows m d 1 (lit< tt) t x-real)) v in
         by-cases (decLt t (loop .0))
         (λ (l : t < loop .0).

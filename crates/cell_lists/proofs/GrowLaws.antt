@@ -10,7 +10,7 @@ use native.Mathlib.Nat.{le-refl, le-trans}
 use native.Mathlib.Omega.{arith}
 use mathlib.Core.Path.{_≡_, refl, sym, ap, _∙_, subst}
 use mathlib.Core.Logic.{_⊎_, ⊎-elim}
-use mathlib.Core.List.{List, List·Memᴰ·head, Memᴰ·append-right}
+use mathlib.Core.List.{List, List·Memᴰ·head, List·Memᴰ·tail, Memᴰ·append-right}
 use lib.ListN.{length, take}
 use lib.Seq.{length-take-le}
 use Rattle.map_betas.specs.Betas.{darts}
@@ -19,11 +19,11 @@ use Rattle.cell_steps.specs.Steps.{edge, volume, volumeLinear}
 use Rattle.cell_steps.specs.Search.{In, add, search, Bounded}
 use Rattle.cell_steps.specs.Loans.{Queue, Grown}
 use Rattle.cell_steps.proofs.TurnLaws.{drop-more}
-use Rattle.cell_lists.specs.Joins.{Whole, Joined, Grew, Onward, Arm}
-use Rattle.cell_lists.proofs.PushLaws.{grown-both, Stays, Enters, pushed}
-use Rattle.cell_lists.proofs.WidenLaws.{Seeded, Spread, seeded-one, spread, spread-joined}
-use Rattle.cell_lists.proofs.VolumeLaws.{linear-closed, linear-seeded, linear-spread}
-use Rattle.cell_lists.proofs.ArmLaws.{edge-joined}
+use Rattle.cell_joins.specs.Joins.{Whole, Joined, Grew, Onward, arm, Arm}
+use Rattle.cell_joins.proofs.PushLaws.{grown-both, Stays, Enters, pushed}
+use Rattle.cell_joins.proofs.WidenLaws.{Seeded, Spread, seeded-one, spread, spread-joined}
+use Rattle.cell_joins.proofs.VolumeLaws.{linear-closed, linear-seeded, linear-spread}
+use Rattle.cell_joins.proofs.ArmLaws.{arm-is, edge-joined}
 
 module _ (rows steps : List ℕ) (d : ℕ) (some : 0 < d) (queue : List ℕ) (found : ℕ) (room : found ≤ length queue) (m₁ q₁ : List ℕ) (k : ℕ)
     (p : Grown queue found (add (take found queue) d) m₁ q₁ k) where
@@ -98,8 +98,21 @@ module _ (rows steps : List ℕ) (d : ℕ) (some : 0 < d) (queue : List ℕ) (fo
               grew-new _ m₃ q₃ r (grown-both _ _ _ _ _ _ _ _ _ _ g f) (rw (from-found steps (take t q₂))
               (spread-joined rows steps d l _ (spread rows steps d l b c _ v)))
 
-      pub grew-edge : edge ≡ steps → (m₂ q₂ : List ℕ) (a : ℕ) → Grown q₁ k (take a q₂) m₂ q₂ a → Arm rows 2 d (take k q₁) (take a q₂) →
-          (m₃ q₃ : List ℕ) (r : ℕ) → Grown q₂ a (take r q₃) m₃ q₃ r → Arm rows 3 d (take a q₂) (take r q₃) → Grew rows steps d queue found m₃ q₃ r
-      grew-edge e m₂ q₂ a g two m₃ q₃ r h three =
+      pub grew-edge : edge ≡ steps → WellFormed rows → (marks : List ℕ) → length marks ≡ darts rows → (lm₁ : length m₁ ≡ length marks) → In 0 (take k q₁) →
+          (m₂ q₂ : List ℕ) (a : ℕ) → length m₂ ≡ length m₁ → Grown q₁ k (arm (darts rows - k) rows 2 d (take k q₁)) m₂ q₂ a →
+          (m₃ q₃ : List ℕ) (r : ℕ) → Grown q₂ a (arm (darts rows - a) rows 3 d (take a q₂)) m₃ q₃ r → Grew rows steps d queue found m₃ q₃ r
+      grew-edge e w marks n-is lm₁ z m₂ q₂ a lm₂ g m₃ q₃ r h =
+          let two : Arm rows 2 d (take k q₁) (take a q₂) =
+          rw (g .front) (arms 2 m₁ q₁ k (p .queue) (lm₁ ∙ n-is) z (List·Memᴰ·head refl) entered) in
+          let three : Arm rows 3 d (take a q₂) (take r q₃) =
+          rw (h .front) (arms 3 m₂ q₂ a (g .queue) (lm₂ ∙ lm₁ ∙ n-is) (two .old 0 z) (List·Memᴰ·tail (List·Memᴰ·head refl)) (two .old d entered)) in
           let j = edge-joined rows d (take found queue) _ _ _ (subst (λ (s : List ℕ). Whole rows s (take found queue)) (sym e) c) (enters .last) two three in
-          grew-new _ m₃ q₃ r (grown-both _ _ _ _ _ _ _ _ _ _ g h) (subst (λ (s : List ℕ). Joined rows s d (take found queue) (take r q₃)) e j)
+          grew-new _ m₃ q₃ r (subst (λ (s : List ℕ). Grown q₁ k s m₃ q₃ r) (sym (h .front)) (grown-both _ _ _ _ _ _ _ _ _ _ g h))
+          (subst (λ (s : List ℕ). Joined rows s d (take found queue) (take r q₃)) e j)
+        where
+          -- an arm of d from what a queue holds
+          arms : (i : ℕ) (ms qs : List ℕ) (c : ℕ) → Queue ms qs c → length ms ≡ darts rows → In 0 (take c qs) → In i edge → In d (take c qs) →
+              Arm rows i d (take c qs) (arm (darts rows - c) rows i d (take c qs))
+          arms i ms qs c q n z s m =
+              arm-is rows w i d (take c qs) (darts rows - c) (omega (arith, length-take-le c qs (q .room))) (q .norep)
+              (λ y o. omega (arith, q .below y o, n)) z s m

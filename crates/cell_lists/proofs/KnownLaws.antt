@@ -16,7 +16,7 @@ use lib.Dec.{eqb}
 use lib.ListN.{getD}
 use borrow.Author.Tests.{eqb-true, eqb-false, eq-eqb, ne-eqb}
 use Rattle.cell_lists.specs.CellLists.{cellsFrom}
-use Rattle.cell_lists.specs.Joins.{Whole, Joined}
+use Rattle.cell_joins.specs.Joins.{Whole, Joined}
 use Rattle.map_betas.specs.Betas.{darts}
 use Rattle.cell_steps.specs.Idents.{ident}
 use Rattle.cell_steps.specs.Search.{In, Reach, Bounded, Symmetric}

@@ -17,7 +17,7 @@ use lib.ListN.{length, getD, take, drop, set, replicate, take-append-drop, drop-
 use lib.Seq.{length-take-le, take-suc-set, drop-set-lt}
 use borrow.Author.Tests.{eqb-true, eqb-false, lt-ltb, le-ltb}
 use Rattle.cell_lists.specs.CellLists.{cellsFrom, cellsBy, cellList, Put}
-use Rattle.cell_lists.specs.Joins.{Whole, Grew}
+use Rattle.cell_joins.specs.Joins.{Whole, Grew}
 use Rattle.cell_steps.specs.Idents.{ident}
 use Rattle.map_betas.specs.Betas.{darts}
 use Rattle.cell_steps.specs.Loans.{Queue, Listed, Zero}
@@ -70,9 +70,6 @@ record Turned (rows steps flags : List ℕ) (found d r : ℕ) (l : List ℕ) : T
 module _ (rows steps flags : List ℕ) (b : Bounded rows) (y : Symmetric rows steps) (marks queue : List ℕ) (found d : ℕ) (r : ℕ) (h : d < darts rows)
     (some : 0 < d) (n-is : length marks ≡ darts rows) (q : Queue marks queue found) (k : Known rows steps d (take found queue))
     (z : In 0 (take found queue)) where
-  l-length : length (take found queue) ≡ found
-  l-length = length-take-le found queue (q .room)
-
   grew : found < r → cond (true && eqb (getD flags d 0) 0) (d ∷ []) []
       ++ cellsFrom (ident rows steps) flags (d + 1) (darts rows - (d + 1)) ≡ cond (ltb found r && eqb (getD flags d 0) 0) (d ∷ []) []
       ++ cellsFrom (ident rows steps) flags (d + 1) (darts rows - (d + 1))

@@ -1,12 +1,8 @@
 // Cell lists of a class whose steps lead back: each orbit is visited once, so that a list takes time linear in the darts. Ports `iter_vertices`, `iter_edges`
 // and `iter_volumes` of dim3/basic_ops.rs.
-mod edges;
-mod meet;
-mod volumes;
-
-use crate::edges::alternate;
-use crate::meet::meet;
-use crate::volumes::flood_forward;
+use cell_joins::edges::alternate;
+use cell_joins::meet::meet;
+use cell_joins::volumes::flood_forward;
 use cell_scratch::scratch::wipe_marks;
 use cell_scratch::scratch::wipe_queue;
 use cell_search::search::flood;
@@ -25,7 +21,7 @@ ghost use Rattle.cell_steps.specs.Search.{In, Symmetric};
 ghost use Rattle.cell_steps.specs.Loans.{AreSteps, Scratch, Queue, Zero, Listed};
 ghost use Rattle.cell_steps.specs.Calls.{wiped};
 ghost use Rattle.cell_lists.specs.CellLists.{cellList, Put};
-ghost use Rattle.cell_lists.specs.Joins.{Whole, Grew};
+ghost use Rattle.cell_joins.specs.Joins.{Whole, Grew};
 
 // Puts d into the queue, unless it is there, with all that the steps reach from it. The order is of no matter to a list, so that an edge is followed and a
 // volume searched by fewer steps.

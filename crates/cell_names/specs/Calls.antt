@@ -9,7 +9,7 @@ use Rattle.map_betas.specs.declared.error.Answer.the-variants.{Done}
 use Rattle.map_betas.specs.Betas.{darts}
 use Rattle.map_betas.specs.Answers.{Outcome, outcome, behind}
 use Rattle.map_betas.specs.Guards.{scratchOf, listLoans, guardOf}
-use Rattle.cell_steps.specs.Calls.{wiped, written}
+use Rattle.cell_steps.specs.Calls.{wiped, headed}
 use Rattle.cell_steps.specs.declared.cells.Class.{Class}
 use Rattle.cell_names.specs.Cells.{identOf, listOf}
 
@@ -27,7 +27,7 @@ idCall rows marks queue class d = behind (idGuard rows marks queue d) (marks, qu
 abbrev pub listDone : List ℕ → List ℕ → List ℕ → List ℕ → List ℕ → Class → Outcome (List ℕ × List ℕ × List ℕ)
 listDone rows marks queue output flags class =
     outcome (Done 0 (length (listOf class rows flags)))
-    (wiped (darts rows) marks, wiped (darts rows) queue, written (listOf class rows flags) output)
+    (wiped (darts rows) marks, wiped (darts rows) queue, headed (listOf class rows flags) output)
 
 abbrev pub listGuard : List ℕ → List ℕ → List ℕ → List ℕ → List ℕ → Answer
 listGuard rows marks queue output flags = guardOf rows (listLoans (length marks) (length queue) (length output) (length flags)) 0 0 0

@@ -84,13 +84,13 @@ pub fn orbit_custom(
     ensures { λ a. ⌜ outcome a (now (marks .exit), now (output .exit))
         ≡ customCall (now (rows .entry)) (now (marks .entry)) (now (output .entry)) (now (betas .entry)) d ⌝ }
 {
-    let g = guard(rows, orbit_loans(marks.len(), output.len()), 0, d, d);
-    if !is_done(g) {
-        return g;
+    let first = guard(rows, orbit_loans(marks.len(), output.len()), 0, d, d);
+    if !is_done(first) {
+        return first;
     }
-    let t = custom_test(betas);
-    if !is_done(t) {
-        return t;
+    let second = custom_test(betas);
+    if !is_done(second) {
+        return second;
     }
     list_orbit(rows, OrbitPolicy::Custom, betas, marks, output, d)
 }

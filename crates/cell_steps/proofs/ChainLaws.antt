@@ -1,5 +1,5 @@
 -- Within as many steps as there are darts a chain comes to null or round, each dart once.
---   passed rows t d         the first t darts from d on by beta 1
+--   passed rows i t d       the first t darts from d on by beta i
 --   passed-in, passed-length   which they are
 --   going-real, once, not-passed   as long as no step leads to null or back to d no dart is met twice
 --   few                     so there are fewer than n steps
@@ -27,85 +27,86 @@ use Rattle.cell_steps.proofs.Lists.{norep-snoc, pigeonhole}
 
 -- ---- the darts that are passed
 
-unfoldable pub passed : List ℕ → ℕ → ℕ → List ℕ
-passed rows zero d = []
-passed rows (suc t) d = passed rows t d ++ (far rows 1 t d ∷ [])
+unfoldable pub passed : List ℕ → ℕ → ℕ → ℕ → List ℕ
+passed rows i zero d = []
+passed rows i (suc t) d = passed rows i t d ++ (far rows i t d ∷ [])
 
-module _ (rows : List ℕ) (d : ℕ) where
-  passed-in : {x : ℕ} (t : ℕ) → In x (passed rows t d) → (u : ℕ) × (u < t) × (x ≡ far rows 1 u d)
+module _ (rows : List ℕ) (i d : ℕ) where
+  passed-in : {x : ℕ} (t : ℕ) → In x (passed rows i t d) → (u : ℕ) × (u < t) × (x ≡ far rows i u d)
   unfolding passed
-  passed-in zero i = absurd (List·Memᴰ·not-nil i)
-  passed-in (suc t) i =
+  passed-in zero m = absurd (List·Memᴰ·not-nil m)
+  passed-in (suc t) m =
       ⊎-elim
       (λ j. let r = passed-in t j in let h = r .1 in (r .0, omega arith, r .2))
       (λ j. (t, omega arith, List·Memᴰ·eq-of-singleton j))
-      (List·Memᴰ·append-cases (passed rows t d) i)
+      (List·Memᴰ·append-cases (passed rows i t d) m)
 
-  passed-length : (t : ℕ) → length (passed rows t d) ≡ t
+  passed-length : (t : ℕ) → length (passed rows i t d) ≡ t
   unfolding passed
   passed-length zero = refl
-  passed-length (suc t) = let h = passed-length t in length-append (passed rows t d) (far rows 1 t d ∷ []) ∙ omega arith
+  passed-length (suc t) = let h = passed-length t in length-append (passed rows i t d) (far rows i t d ∷ []) ∙ omega arith
 
 -- ---- each dart once
 
-module _ (rows : List ℕ) (w : WellFormed rows) (d : ℕ) (real : d ≢ 0) where
+module _ (rows : List ℕ) (w : WellFormed rows) (i : ℕ) (hi : i < 4) (d : ℕ) (real : d ≢ 0) where
   -- m steps lead on from d, none of them to null or back to d
   abbrev pub Going : ℕ → Type 0
-  Going m = Run rows 1 d (beta rows 1 d) m
+  Going m = Run rows i d (beta rows i d) m
 
-  pub going-real : (m : ℕ) → Going m → (t : ℕ) → t ≤ m → far rows 1 t d ≢ 0
+  pub going-real : (m : ℕ) → Going m → (t : ℕ) → t ≤ m → far rows i t d ≢ 0
   unfolding far
   going-real m g zero h = real
   going-real m g (suc t) h = g t (omega arith) .0
 
-  once : (m : ℕ) → Going m → (t u : ℕ) → t < u → u ≤ m → far rows 1 t d ≢ far rows 1 u d
+  once : (m : ℕ) → Going m → (t u : ℕ) → t < u → u ≤ m → far rows i t d ≢ far rows i u d
   once m g t u h k e =
       let q : u - t ≡ suc (u - suc t) = omega arith in
       g (u - suc t) (omega arith) .1
-      (sym (far-suc rows 1 (u - suc t) d)
-      ∙ ap (λ (x : ℕ). far rows 1 x d) (sym q)
-      ∙ far-again rows w 1 (omega arith) t u d (omega arith) (going-real m g u k) e)
+      (sym (far-suc rows i (u - suc t) d)
+      ∙ ap (λ (x : ℕ). far rows i x d) (sym q)
+      ∙ far-again rows w i hi t u d (omega arith) (going-real m g u k) e)
 
-  pub not-passed : (m : ℕ) → Going m → (t : ℕ) → t ≤ m → In (far rows 1 t d) (passed rows t d) → ⊥
-  not-passed m g t h i = let r = passed-in rows d t i in once m g (r .0) t (r .1) h (sym (r .2))
+  pub not-passed : (m : ℕ) → Going m → (t : ℕ) → t ≤ m → In (far rows i t d) (passed rows i t d) → ⊥
+  not-passed m g t h n = let r = passed-in rows i d t n in once m g (r .0) t (r .1) h (sym (r .2))
 
-  norep-passed : (m : ℕ) → Going m → (t : ℕ) → t ≤ suc m → NoRep (passed rows t d)
+  norep-passed : (m : ℕ) → Going m → (t : ℕ) → t ≤ suc m → NoRep (passed rows i t d)
   unfolding passed
   norep-passed m g zero h = tt
-  norep-passed m g (suc t) h = norep-snoc (passed rows t d) (far rows 1 t d) (norep-passed m g t (omega arith)) (not-passed m g t (omega arith))
+  norep-passed m g (suc t) h = norep-snoc (passed rows i t d) (far rows i t d) (norep-passed m g t (omega arith)) (not-passed m g t (omega arith))
 
   few : d < darts rows → (m : ℕ) → Going m → m < darts rows
   few lt m g =
-      let b : (x : ℕ) → In x (passed rows (suc m) d) → x < darts rows =
-      λ x i. let r = passed-in rows d (suc m) i in subst (λ (y : ℕ). y < darts rows) (sym (r .2)) (below (r .0)) in
-      omega (arith, pigeonhole (darts rows) (passed rows (suc m) d) (norep-passed m g (suc m) (omega arith)) b, passed-length rows d (suc m))
+      let b : (x : ℕ) → In x (passed rows i (suc m) d) → x < darts rows =
+      λ x n. let r = passed-in rows i d (suc m) n in subst (λ (y : ℕ). y < darts rows) (sym (r .2)) (below (r .0)) in
+      omega (arith, pigeonhole (darts rows) (passed rows i (suc m) d) (norep-passed m g (suc m) (omega arith)) b, passed-length rows i d (suc m))
     where
-      below : (t : ℕ) → far rows 1 t d < darts rows
-      below zero = rw (far-zero rows 1 d) lt
-      below (suc t) = rw (far-last rows 1 t d) (w .below 1 (far rows 1 t d))
+      below : (t : ℕ) → far rows i t d < darts rows
+      below zero = rw (far-zero rows i d) lt
+      below (suc t) = rw (far-last rows i t d) (w .below i (far rows i t d))
 
-  found : d < darts rows → (f t : ℕ) → darts rows ≤ t + f → Going t → (m : ℕ) × (m < darts rows) × Ends rows 1 d (beta rows 1 d) m
+  found : d < darts rows → (f t : ℕ) → darts rows ≤ t + f → Going t → (m : ℕ) × (m < darts rows) × Ends rows i d (beta rows i d) m
   found lt zero t h g = absurd (omega (arith, few lt t g))
   found lt (suc f) t h g =
-      by-cases (ℕ-discrete (far rows 1 t (beta rows 1 d)) 0)
-      (λ (z : far rows 1 t (beta rows 1 d) ≡ 0). (t, few lt t g, record { run = g; over = inl z }))
-      (λ (n : far rows 1 t (beta rows 1 d) ≢ 0). by-cases (ℕ-discrete (far rows 1 t (beta rows 1 d)) d)
-      (λ (e : far rows 1 t (beta rows 1 d) ≡ d). (t, few lt t g, record { run = g; over = inr e }))
-      (λ (o : far rows 1 t (beta rows 1 d) ≢ d). found lt f (suc t) (omega arith) (more n o)))
+      by-cases (ℕ-discrete (far rows i t (beta rows i d)) 0)
+      (λ (z : far rows i t (beta rows i d) ≡ 0). (t, few lt t g, record { run = g; over = inl z }))
+      (λ (n : far rows i t (beta rows i d) ≢ 0). by-cases (ℕ-discrete (far rows i t (beta rows i d)) d)
+      (λ (e : far rows i t (beta rows i d) ≡ d). (t, few lt t g, record { run = g; over = inr e }))
+      (λ (o : far rows i t (beta rows i d) ≢ d). found lt f (suc t) (omega arith) (more n o)))
     where
-      more : far rows 1 t (beta rows 1 d) ≢ 0 → far rows 1 t (beta rows 1 d) ≢ d → Going (suc t)
+      more : far rows i t (beta rows i d) ≢ 0 → far rows i t (beta rows i d) ≢ d → Going (suc t)
       more n o u k =
           by-cases (decLt u t) (g u)
           (λ (l : u < t → ⊥).
           let e : u ≡ t = omega arith in
           rw e (n, o))
 
-pub chain-ends : (rows : List ℕ) → WellFormed rows → (d : ℕ) → d < darts rows → (m : ℕ) × (m < darts rows) × Ends rows 1 d (beta rows 1 d) m
+pub chain-ends : (rows : List ℕ) → WellFormed rows → (i : ℕ) → i < 4 → (d : ℕ) → d < darts rows →
+    (m : ℕ) × (m < darts rows) × Ends rows i d (beta rows i d) m
 unfolding far
-chain-ends rows w d lt =
+chain-ends rows w i hi d lt =
     by-cases (ℕ-discrete d 0)
-    (λ (z : d ≡ 0). (0, omega arith, record { run = λ t h. absurd (omega arith); over = inl (ap (beta rows 1) z ∙ w .null 1 (omega arith)) }))
-    (λ (n : d ≢ 0). found rows w d n lt (darts rows) 0 (omega arith) (λ t h. absurd (omega arith)))
+    (λ (z : d ≡ 0). (0, omega arith, record { run = λ t h. absurd (omega arith); over = inl (ap (beta rows i) z ∙ w .null i hi) }))
+    (λ (n : d ≢ 0). found rows w i hi d n lt (darts rows) 0 (omega arith) (λ t h. absurd (omega arith)))
 
 -- ---- how far it is to the end
 
@@ -148,7 +149,7 @@ pub record Enough (rows : List ℕ) (d left x : ℕ) : Type 0 where
   pub ends : Ends rows 1 d (beta rows 1 x) steps
 
 pub enough-starts : (rows : List ℕ) → WellFormed rows → (d : ℕ) → d < darts rows → Enough rows d (darts rows) d
-enough-starts rows w d lt = let e = chain-ends rows w d lt in record { steps = e .0; few = e .1; room = omega arith; ends = e .2 }
+enough-starts rows w d lt = let e = chain-ends rows w 1 (omega arith) d lt in record { steps = e .0; few = e .1; room = omega arith; ends = e .2 }
 
 module _ (rows : List ℕ) (d left x : ℕ) (v : Enough rows d left x) where
   pub enough-one : left ≡ suc (left - 1)

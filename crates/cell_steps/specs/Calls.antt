@@ -1,6 +1,6 @@
 -- What an orbit call answers, and what it leaves of its loans.
 --   wiped n l         l with its first n places 0
---   written l out     out with l in its first places
+--   headed l out      out with l in its first places
 --   orbitDone         an orbit call that is not refused
 --   customTest betas  refuses the first value of a Custom list that is no beta
 --   orbitCall, customCall   the calls
@@ -24,13 +24,13 @@ abbrev pub wiped : ℕ → List ℕ → List ℕ
 wiped n l = replicate n 0 ++ drop n l
 
 -- "Output .. beyond the count [is] unchanged."
-abbrev pub written : List ℕ → List ℕ → List ℕ
-written l out = l ++ drop (length l) out
+abbrev pub headed : List ℕ → List ℕ → List ℕ
+headed l out = l ++ drop (length l) out
 
 -- the count is the orbit's own length
 abbrev pub orbitDone : List ℕ → List ℕ → List ℕ → List ℕ → ℕ → Outcome (List ℕ × List ℕ)
 orbitDone rows marks output steps d =
-    outcome (Done 0 (length (orbit rows steps d))) (wiped (darts rows) marks, written (orbit rows steps d) output)
+    outcome (Done 0 (length (orbit rows steps d))) (wiped (darts rows) marks, headed (orbit rows steps d) output)
 
 -- "beta number above 3, .. first in a Custom list"
 unfoldable pub customTest : List ℕ → Answer

@@ -22,7 +22,7 @@ use Rattle.image_words.specs.Words.{word32, word64, coordinateAt}
 use Rattle.image_form.specs.Tests.{unless, startTest, layoutTest, bitsOnly, flagsTest, recordGood, recordsGood, verticesTest}
 use Rattle.image_reader.specs.Tests.{loansTest, blocksTest, imageTest}
 use Rattle.image_fill.specs.Content.{putRecord, putRecords, slotsOf}
-use Rattle.image_reader.specs.Reads.{Read, left, wrote, readWithin, readImage}
+use Rattle.image_reader.specs.Reads.{Read, readOut, wrote, readWithin, readImage}
 
 -- a word below 256
 abbrev word : ℕ → List ℕ
@@ -63,14 +63,14 @@ abbrev answer : List ℕ → Answer
 answer bytes = read bytes .answer
 
 triangle-read : read triangle ≡
-    left (Done 0 4) (0 ∷ 0 ∷ 0 ∷ 0 ∷ 9 ∷ []) (0 ∷ 0 ∷ 0 ∷ 0 ∷ 9 ∷ []) (replicate 12 plus0 ++ (one ∷ []))
+    readOut (Done 0 4) (0 ∷ 0 ∷ 0 ∷ 0 ∷ 9 ∷ []) (0 ∷ 0 ∷ 0 ∷ 0 ∷ 9 ∷ []) (replicate 12 plus0 ++ (one ∷ []))
     (0 ∷ 0 ∷ 0 ∷ 0 ∷ 3 ∷ 2 ∷ 0 ∷ 0 ∷ 1 ∷ 3 ∷ 0 ∷ 0 ∷ 2 ∷ 1 ∷ 0 ∷ 0 ∷ 9 ∷ 9 ∷ [])
 unfolding readWithin wrote slotsOf putRecord putRecords imageTest blocksTest loansTest verticesTest recordsGood recordGood flagsTest bitsOnly layoutTest
     startTest unless loanTest mapTest firstBreach breachAt breaks word32 word64 coordinateAt listed ofBits
 triangle-read = refl
 
 pair-read : read pair ≡
-    left (Done 0 2) (0 ∷ 1 ∷ replicate 3 9) (0 ∷ 1 ∷ replicate 3 9) (plus0 ∷ plus0 ∷ plus0 ∷ one ∷ minus0 ∷ two ∷ replicate 7 one)
+    readOut (Done 0 2) (0 ∷ 1 ∷ replicate 3 9) (0 ∷ 1 ∷ replicate 3 9) (plus0 ∷ plus0 ∷ plus0 ∷ one ∷ minus0 ∷ two ∷ replicate 7 one)
     (replicate 8 0 ++ replicate 10 9)
 unfolding readWithin wrote slotsOf putRecord putRecords imageTest blocksTest loansTest verticesTest recordsGood recordGood flagsTest bitsOnly layoutTest
     startTest unless loanTest mapTest firstBreach breachAt breaks word32 word64 coordinateAt listed ofBits

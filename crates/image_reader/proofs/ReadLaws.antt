@@ -15,7 +15,7 @@ use Rattle.map_betas.specs.Answers.{isDone}
 use Rattle.image_words.specs.Words.{bytesAt}
 use Rattle.image_form.specs.Form.{form1, flagOffset, dartsOf, verticesOf, rowsOf, recordAt, Sound, Vertices}
 use Rattle.image_fill.specs.Content.{Slots, slots, over, flagsOf, slotsOf}
-use Rattle.image_reader.specs.Reads.{left, wrote, testOf, readWithin}
+use Rattle.image_reader.specs.Reads.{readOut, wrote, testOf, readWithin}
 
 -- n and v are what the code reads
 pub sound-read : (bytes : List ℕ) (n v : ℕ) → n ≡ dartsOf bytes → v ≡ verticesOf bytes → Vertices bytes (dartsOf bytes) (verticesOf bytes) →
@@ -29,13 +29,13 @@ flags-copied bytes flags f n from e g = g ∙ ap (λ (k : ℕ). bytesAt bytes k 
 
 module _ (most : ℕ) (bytes flags vertices : List ℕ) (coordinates : List Float) (rows : List ℕ) (t : Answer)
     (e : t ≡ testOf most bytes flags vertices coordinates rows) where
-  pub read-refused : isDone t ≡ false → left t flags vertices coordinates rows ≡ readWithin most bytes flags vertices coordinates rows
+  pub read-refused : isDone t ≡ false → readOut t flags vertices coordinates rows ≡ readWithin most bytes flags vertices coordinates rows
   unfolding readWithin
   read-refused d = simp (← e, d)
 
   pub read-done : isDone t ≡ true → (n v : ℕ) (f p : List ℕ) (q : List Float) (r : List ℕ) → n ≡ dartsOf bytes → v ≡ verticesOf bytes →
       f ≡ flagsOf bytes n ++ drop n flags → slots p q ≡ over (slotsOf bytes n v) (drop n vertices) (drop (3 * n) coordinates) →
-      r ≡ rowsOf bytes n ++ drop (4 * n) rows → left (Done 0 n) f p q r ≡ readWithin most bytes flags vertices coordinates rows
+      r ≡ rowsOf bytes n ++ drop (4 * n) rows → readOut (Done 0 n) f p q r ≡ readWithin most bytes flags vertices coordinates rows
   unfolding readWithin wrote
   read-done d n v f p q r en ev ef es er =
       let ep : p ≡ slotsOf bytes n v .marks ++ drop n vertices = ap (λ (s : Slots). s .marks) es in

@@ -23,7 +23,7 @@ use Rattle.image_words.specs.Words.{word32}
 use Rattle.image_words.proofs.Filled.{listed-length, listed-get}
 use Rattle.image_form.specs.Form.{form1, flagOffset, vertexOffset, dartsOf, verticesOf, rowsOf, flagAt, recordAt, recordDart, recordCoordinate}
 use Rattle.image_fill.specs.Content.{slots, plusZero, noMarks, noCoordinates, emptySlots, flagsOf, slotsOf}
-use Rattle.image_reader.specs.Reads.{Read, left, wrote, testOf, readWithin, readImage, Accepted}
+use Rattle.image_reader.specs.Reads.{Read, readOut, wrote, testOf, readWithin, readImage, Accepted}
 use Rattle.image_form.proofs.StoredLaws.{rows-length, stored-is}
 use Rattle.image_fill.proofs.SlotLaws.{Holds, marks-length, coordinates-length, many-other, many-named}
 use Rattle.image_reader.proofs.Accepted.{accepted-by, accepts}
@@ -74,7 +74,7 @@ module _ (most : ℕ) (bytes flags vertices : List ℕ) (coordinates : List Floa
   unfolding readWithin
   done-is t = simp t
 
-  refused-is : isDone test ≡ false → after ≡ left test flags vertices coordinates rows
+  refused-is : isDone test ≡ false → after ≡ readOut test flags vertices coordinates rows
   unfolding readWithin
   refused-is t = simp t
 
@@ -83,7 +83,7 @@ module _ (most : ℕ) (bytes flags vertices : List ℕ) (coordinates : List Floa
   tested = go (isDone test) refl
     where
       go : (b : Bool) → isDone test ≡ b →
-          isDone (cond b (wrote bytes n v flags vertices coordinates rows) (left test flags vertices coordinates rows) .answer) ≡ isDone test
+          isDone (cond b (wrote bytes n v flags vertices coordinates rows) (readOut test flags vertices coordinates rows) .answer) ≡ isDone test
       go true e = sym e
       go false e = refl
 
@@ -91,10 +91,10 @@ module _ (most : ℕ) (bytes flags vertices : List ℕ) (coordinates : List Floa
   read-iff m =
       (λ t. accepted-by most bytes flags vertices coordinates rows m (sym tested ∙ t), λ a. tested ∙ accepts most bytes flags vertices coordinates rows m a)
 
-  pub refused-keeps : isDone (after .answer) ≡ false → after ≡ left (after .answer) flags vertices coordinates rows
+  pub refused-keeps : isDone (after .answer) ≡ false → after ≡ readOut (after .answer) flags vertices coordinates rows
   refused-keeps t =
       let e = refused-is (sym tested ∙ t) in
-      e ∙ ap (λ (r : Read). left (r .answer) flags vertices coordinates rows) (sym e)
+      e ∙ ap (λ (r : Read). readOut (r .answer) flags vertices coordinates rows) (sym e)
 
   module _ (m : most ≤ 1048576) (a : Accepted most bytes flags vertices coordinates rows) where
     is : after ≡ wrote bytes n v flags vertices coordinates rows

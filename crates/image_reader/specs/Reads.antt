@@ -30,13 +30,13 @@ loaded flags vertices coordinates rows = record { flags = flags; vertices = vert
 abbrev pub Read : Type 0
 Read = Outcome Loaded
 
-abbrev pub left : Answer → List ℕ → List ℕ → List Float → List ℕ → Read
-left a flags vertices coordinates rows = outcome a (loaded flags vertices coordinates rows)
+abbrev pub readOut : Answer → List ℕ → List ℕ → List Float → List ℕ → Read
+readOut a flags vertices coordinates rows = outcome a (loaded flags vertices coordinates rows)
 
 -- "Success writes n darts' rows, flags, vertex marks .. and coordinates .. and no more"
 unfoldable pub wrote : List ℕ → ℕ → ℕ → List ℕ → List ℕ → List Float → List ℕ → Read
 wrote bytes n v flags vertices coordinates rows =
-    left (Done 0 n) (flagsOf bytes n ++ drop n flags) (slotsOf bytes n v .marks ++ drop n vertices)
+    readOut (Done 0 n) (flagsOf bytes n ++ drop n flags) (slotsOf bytes n v .marks ++ drop n vertices)
     (slotsOf bytes n v .coordinates ++ drop (3 * n) coordinates)
     (rowsOf bytes n ++ drop (4 * n) rows)
 

@@ -26,7 +26,7 @@ ghost use lib.ListN.{length, drop};
 ghost use Rattle.image_form.specs.Form.{form1, totalBytes, recordAt, Sound};
 ghost use Rattle.image_reader.specs.Tests.{loansTest, blocksTest, imageTest};
 ghost use Rattle.image_fill.specs.Content.{slots, over, slotsOf};
-ghost use Rattle.image_reader.specs.Reads.{left, readWithin, readImage};
+ghost use Rattle.image_reader.specs.Reads.{readOut, readWithin, readImage};
 
 // Refuses the first loan that is too short for n darts; the rows, the reader's own, come last.
 fn loans_test(n: usize, loans: Loans, rows: usize) -> Answer
@@ -105,7 +105,7 @@ pub fn read_within(
     rows: &mut [u32],
 ) -> Answer
     requires { ⌜ most ≤ 1048576 ⌝ }
-    ensures { λ a. ⌜ left a (now (flags .exit)) (now (vertices .exit)) (now (coordinates .exit)) (now (rows .exit))
+    ensures { λ a. ⌜ readOut a (now (flags .exit)) (now (vertices .exit)) (now (coordinates .exit)) (now (rows .exit))
         ≡ readWithin most (now (bytes .entry)) (now (flags .entry)) (now (vertices .entry)) (now (coordinates .entry)) (now (rows .entry)) ⌝ }
 {
     let loans = reader_loans(flags.len(), vertices.len(), coordinates.len());
@@ -128,7 +128,7 @@ pub fn read_image(
     coordinates: &mut [f64],
     rows: &mut [u32],
 ) -> Answer
-    ensures { λ a. ⌜ left a (now (flags .exit)) (now (vertices .exit)) (now (coordinates .exit)) (now (rows .exit))
+    ensures { λ a. ⌜ readOut a (now (flags .exit)) (now (vertices .exit)) (now (coordinates .exit)) (now (rows .exit))
         ≡ readImage (now (bytes .entry)) (now (flags .entry)) (now (vertices .entry)) (now (coordinates .entry)) (now (rows .entry)) ⌝ }
 {
     read_within(bytes, 1048576, flags, vertices, coordinates, rows)

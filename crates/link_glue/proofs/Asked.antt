@@ -25,7 +25,7 @@ use Rattle.map_betas.proofs.Chains.{Run, far-zero, far-suc, far-last, far-plus,
 use Rattle.link_walk.specs.Walk.{stepOf, LegOut}
 use Rattle.link_walk.specs.Three.{legOn, legBack, afterLeg, afterCore, threeLinkOn, threeUnlinkOn}
 use Rattle.link_glue.specs.Matching.{Chain, first, back, ClosedChain, Facing, Matching, Unlinkable}
-use Rattle.link_walk.proofs.StepLaws.{Changed, left-le, changed-formed, changed-low, changed-length, changed-far}
+use Rattle.link_walk.proofs.StepLaws.{Changed, changeable-le, changed-formed, changed-low, changed-length, changed-far}
 use Rattle.link_walk.proofs.ThreeLaws.{on-link, on-unlink}
 use Rattle.link_glue.proofs.Turns.{said-done, step-again}
 use Rattle.link_glue.proofs.Trace.{Trace}
@@ -40,9 +40,9 @@ pub record Partners (rows : List ℕ) (ld rd : ℕ) (p : ℕ → ℕ) : Type 0 w
   pub different : (d e : ℕ) → Chain rows ld d → Chain rows ld e → p d ≡ p e → d ≡ e
 
 -- `was` is how the pairs are before: free for a link, linked for an unlink
-module _ (un : Bool) (rows : List ℕ) (ld rd : ℕ) (p : ℕ → ℕ) (s : WellFormed rows) (nl : ld ≢ 0) (hl : ld < darts rows) (hr : rd < darts rows)
+module _ (parting : Bool) (rows : List ℕ) (ld rd : ℕ) (p : ℕ → ℕ) (s : WellFormed rows) (nl : ld ≢ 0) (hl : ld < darts rows) (hr : rd < darts rows)
     (q : Partners rows ld rd p)
-    (was : (d : ℕ) → Chain rows ld d → (beta rows 3 d ≡ cond un (p d) 0) × (beta rows 3 (p d) ≡ cond un d 0)) where
+    (was : (d : ℕ) → Chain rows ld d → (beta rows 3 d ≡ cond parting (p d) 0) × (beta rows 3 (p d) ≡ cond parting d 0)) where
   pub nr : rd ≢ 0
   nr e = q .real ld first (q .starts ∙ e)
 
@@ -99,12 +99,12 @@ module _ (un : Bool) (rows : List ℕ) (ld rd : ℕ) (p : ℕ → ℕ) (s : Well
       g (v - suc u) (omega arith) .1 (sym (far-suc rows 1 (v - suc u) ld) ∙ ap (λ (t : ℕ). far rows 1 t ld) (sym k) ∙ r)
 
   abbrev rows₁ : List ℕ
-  rows₁ = paired un rows 3 ld rd
+  rows₁ = paired parting rows 3 ld rd
 
-  pair₁ : Changed un rows ld rd rows₁
+  pair₁ : Changed parting rows ld rd rows₁
   pair₁ =
       record {
-        was-l = was ld first .0 ∙ ap (λ (y : ℕ). cond un y 0) (q .starts);
+        was-l = was ld first .0 ∙ ap (λ (y : ℕ). cond parting y 0) (q .starts);
         was-r = ap (λ (y : ℕ). beta rows 3 y) (sym (q .starts)) ∙ was ld first .1;
         apart = λ h e. q .outside ld first (subst (λ (y : ℕ). Chain rows ld y) (e ∙ sym (q .starts)) first);
         real = nr;
@@ -112,9 +112,9 @@ module _ (un : Bool) (rows : List ℕ) (ld rd : ℕ) (p : ℕ → ℕ) (s : Well
       }
 
   still₁ : (d : ℕ) → d ≢ ld → d ≢ rd → beta rows₁ 3 d ≡ beta rows 3 d
-  still₁ d a b = changed-far un rows ld rd rows₁ s pair₁ hl hr nl d a b
+  still₁ d a b = changed-far parting rows ld rd rows₁ s pair₁ hl hr nl d a b
 
-  fresh₁ : Fresh un rows 1 0 ld rows₁ l₁ r₁
+  fresh₁ : Fresh parting rows 1 0 ld rows₁ l₁ r₁
   fresh₁ =
       record {
         real-r = λ u g z. let c = chain₁ u g in q .real _ (c .0) (c .1 ∙ z);
@@ -133,7 +133,7 @@ module _ (un : Bool) (rows : List ℕ) (ld rd : ℕ) (p : ℕ → ℕ) (s : Well
             λ u g.
             let a = chain₁ u g in
             still₁ _ (g u (omega arith) .1) (λ e. q .outside ld first (subst (λ (y : ℕ). Chain rows ld y) (e ∙ sym (q .starts)) (a .0))) ∙ was _ (a .0) .0
-            ∙ ap (λ (y : ℕ). cond un y 0) (a .1);
+            ∙ ap (λ (y : ℕ). cond parting y 0) (a .1);
         was-r =
             λ u g.
             let a = chain₁ u g in
@@ -144,22 +144,23 @@ module _ (un : Bool) (rows : List ℕ) (ld rd : ℕ) (p : ℕ → ℕ) (s : Well
       }
 
   s₁ : WellFormed rows₁
-  s₁ = changed-formed un rows ld rd rows₁ s pair₁ hl hr nl
+  s₁ = changed-formed parting rows ld rd rows₁ s pair₁ hl hr nl
 
   low₁ : (b d : ℕ) → b < 3 → beta rows₁ b d ≡ beta rows b d
-  low₁ = changed-low un rows ld rd rows₁ s pair₁ hl hr nl
+  low₁ = changed-low parting rows ld rd rows₁ s pair₁ hl hr nl
 
-  leg₁ : isDone (legOn un rows₁ ld rd .leg .answer) ≡ true
+  leg₁ : isDone (legOn parting rows₁ ld rd .leg .answer) ≡ true
   leg₁ =
-      let k = changed-length un rows ld rd rows₁ s pair₁ hl hr nl in
-      let z = left-le un rows₁ in
+      let k = changed-length parting rows ld rd rows₁ s pair₁ hl hr nl in
+      let z = changeable-le parting rows₁ in
       let a = s .below 1 ld in
       let b = s .below 0 rd in
       rw (low₁ 1 ld (omega arith), low₁ 0 rd (omega arith))
-      (finishes un rows 1 0 ld ld rd (omega arith) (omega arith) (suc (length rows₁)) rows₁ l₁ r₁ 0 s₁ (omega arith) (omega arith) low₁ (omega arith) fresh₁)
+      (finishes parting rows 1 0 ld ld rd (omega arith) (omega arith) (suc (length rows₁)) rows₁ l₁ r₁ 0 s₁ (omega arith) (omega arith) low₁ (omega arith)
+      fresh₁)
 
   -- the second leg, where the first came to an end
-  module _ (w : LegOut) (m : ℕ) (v : Trace un rows 1 0 ld rows ld rd (suc m) w) (zl : w .leg .l ≡ 0) where
+  module _ (w : LegOut) (m : ℕ) (v : Trace parting rows 1 0 ld rows ld rd (suc m) w) (zl : w .leg .l ≡ 0) where
     end-front : far rows 1 (suc m) ld ≡ 0
     end-front = sym (v .end-l) ∙ zl
 
@@ -228,7 +229,7 @@ module _ (un : Bool) (rows : List ℕ) (ld rd : ℕ) (p : ℕ → ℕ) (s : Well
         ∙ ap (far rows 1 (suc x - suc u)) (sym r)
         ∙ far-undo rows s 0 (omega arith) (suc x - suc u) ld (λ z. nl (sym r ∙ z)))
 
-    fresh₂ : Fresh un rows 0 1 0 (w .rows) l₂ r₂
+    fresh₂ : Fresh parting rows 0 1 0 (w .rows) l₂ r₂
     fresh₂ =
         record {
           real-r = λ u g z. let c = chain₂ u g in q .real _ (c .0) (c .1 ∙ z);
@@ -247,7 +248,7 @@ module _ (un : Bool) (rows : List ℕ) (ld rd : ℕ) (p : ℕ → ℕ) (s : Well
               λ u g.
               let a = chain₂ u g in
               v .other _ (λ t h. (behind u t g h, λ e. q .outside _ (in-chain t h) (subst (λ (y : ℕ). Chain rows ld y) (e ∙ sym (partner t h)) (a .0))))
-              ∙ was _ (a .0) .0 ∙ ap (λ (y : ℕ). cond un y 0) (a .1);
+              ∙ was _ (a .0) .0 ∙ ap (λ (y : ℕ). cond parting y 0) (a .1);
           was-r =
               λ u g.
               let a = chain₂ u g in
@@ -261,23 +262,23 @@ module _ (un : Bool) (rows : List ℕ) (ld rd : ℕ) (p : ℕ → ℕ) (s : Well
         }
 
   -- the whole
-  second : (w : LegOut) → legOn un rows₁ ld rd ≡ w → w .leg .l ≡ 0 → (w .leg .r ≡ 0) × (isDone (legBack un (w .rows) ld rd .leg .answer) ≡ true)
+  second : (w : LegOut) → legOn parting rows₁ ld rd ≡ w → w .leg .l ≡ 0 → (w .leg .r ≡ 0) × (isDone (legBack parting (w .rows) ld rd .leg .answer) ≡ true)
   second w e zl =
       let t : isDone (w .leg .answer) ≡ true = ap (λ (x : LegOut). isDone (x .leg .answer)) (sym e) ∙ leg₁ in
-      let v = trace₁ un rows ld rd s hl nl hr rows₁ pair₁ w e t in
-      let g = leaves₁ un rows ld rd s hl nl hr rows₁ pair₁ w e in
+      let v = trace₁ parting rows ld rd s hl nl hr rows₁ pair₁ w e t in
+      let g = leaves₁ parting rows ld rd s hl nl hr rows₁ pair₁ w e in
       let low = g .low in
       let long = g .long in
-      let z = left-le un (w .rows) in
+      let z = changeable-le parting (w .rows) in
       let a = s .below 0 ld in
       let b = s .below 1 rd in (
         null-for-null w (v .0) (v .1) zl,
         rw (low 0 ld (omega arith), low 1 rd (omega arith))
-            (finishes un rows 0 1 0 ld rd (omega arith) (omega arith) (suc (length (w .rows))) (w .rows) (beta rows 0 ld) (beta rows 1 rd) 0
+            (finishes parting rows 0 1 0 ld rd (omega arith) (omega arith) (suc (length (w .rows))) (w .rows) (beta rows 0 ld) (beta rows 1 rd) 0
             (g .formed) (omega arith) (omega arith) low (omega arith) (fresh₂ w (v .0) (v .1) zl)),
       )
 
-  finish : (x : ℕ) (w : LegOut) → legOn un rows₁ ld rd ≡ w → isDone (afterLeg un x rows ld rd w .answer) ≡ true
+  finish : (x : ℕ) (w : LegOut) → legOn parting rows₁ ld rd ≡ w → isDone (afterLeg parting x rows ld rd w .answer) ≡ true
   finish x w e =
       let t : isDone (w .leg .answer) ≡ true = ap (λ (y : LegOut). isDone (y .leg .answer)) (sym e) ∙ leg₁ in
       by-cases (ℕ-discrete (w .leg .l) 0)
@@ -287,10 +288,10 @@ module _ (un : Bool) (rows : List ℕ) (ld rd : ℕ) (p : ℕ → ℕ) (s : Well
       (λ (z : w .leg .l ≢ 0). simp (t, ne-eqb (w .leg .l) 0 z))
 
   -- x is the dart to answer
-  pub asked : (x : ℕ) → isDone (afterCore un x rows ld rd (stepOf un ld rd rows ld rd) .answer) ≡ true
+  pub asked : (x : ℕ) → isDone (afterCore parting x rows ld rd (stepOf parting ld rd rows ld rd) .answer) ≡ true
   asked x =
-      ap (λ (o : Out). isDone (afterCore un x rows ld rd o .answer)) (sym (step-again un ld rd rows ld rd rows₁ pair₁))
-      ∙ simp (said-done un rd) (finish x (legOn un rows₁ ld rd) refl)
+      ap (λ (o : Out). isDone (afterCore parting x rows ld rd o .answer)) (sym (step-again parting ld rd rows ld rd rows₁ pair₁))
+      ∙ simp (said-done parting rd) (finish x (legOn parting rows₁ ld rd) refl)
 
 -- a matching, and a chain whose darts face their images, are such partners
 

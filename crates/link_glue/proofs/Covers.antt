@@ -44,17 +44,17 @@ module _ (rows : List ℕ) (ld rd : ℕ) (tab : List ℕ) (c : Cover rows ld rd 
         free = c .free;
       }
 
-  pub linked : ((i d : ℕ) → i < 3 → beta tab i d ≡ beta rows i d) → Linked rows ld (λ d. beta tab 3 d) tab
-  linked low = record { left = λ d h. refl; right = c .linked; others = c .others; lower = low }
+  pub linked : ((i d : ℕ) → i < 3 → beta tab i d ≡ beta rows i d) → length tab ≡ length rows → Linked rows ld (λ d. beta tab 3 d) tab
+  linked low q = record { left = λ d h. refl; right = c .linked; others = c .others; lower = low; long = q }
 
 -- of an unlink
 module _ (rows : List ℕ) (ld rd : ℕ) (clr : List ℕ) (c : Cover rows ld rd rows clr) where
   pub unlinkable : Unlinkable rows ld
   unlinkable = record { real = c .real; outside = c .outside; facing = c .facing }
 
-  pub unlinked : ((i d : ℕ) → i < 3 → beta clr i d ≡ beta rows i d) → Unlinked rows ld clr
-  unlinked low =
-      record { left = λ d h. c .free d h .0; right = λ d h. c .free d h .1; others = λ e a b. sym (c .others e a b); lower = low }
+  pub unlinked : ((i d : ℕ) → i < 3 → beta clr i d ≡ beta rows i d) → length clr ≡ length rows → Unlinked rows ld clr
+  unlinked low q =
+      record { left = λ d h. c .free d h .0; right = λ d h. c .free d h .1; others = λ e a b. sym (c .others e a b); lower = low; long = q }
 
 -- the pairs of a leg
 pub record Table (tab clr base : List ℕ) (i j l r m : ℕ) : Type 0 where
@@ -63,22 +63,23 @@ pub record Table (tab clr base : List ℕ) (i j l r m : ℕ) : Type 0 where
   pub clr-l : (t : ℕ) → t < m → beta clr 3 (far base i t l) ≡ 0
   pub clr-r : (t : ℕ) → t < m → beta clr 3 (far base j t r) ≡ 0
 
-pub table : (un : Bool) (was last base : List ℕ) (i j l r m : ℕ) →
-    ((t : ℕ) → t < m → beta was 3 (far base i t l) ≡ cond un (far base j t r) 0) →
-    ((t : ℕ) → t < m → beta was 3 (far base j t r) ≡ cond un (far base i t l) 0) →
-    ((t : ℕ) → t < m → beta last 3 (far base i t l) ≡ cond un 0 (far base j t r)) →
-    ((t : ℕ) → t < m → beta last 3 (far base j t r) ≡ cond un 0 (far base i t l)) →
-    Table (cond un was last) (cond un last was) base i j l r m
+pub table : (parting : Bool) (was last base : List ℕ) (i j l r m : ℕ) →
+    ((t : ℕ) → t < m → beta was 3 (far base i t l) ≡ cond parting (far base j t r) 0) →
+    ((t : ℕ) → t < m → beta was 3 (far base j t r) ≡ cond parting (far base i t l) 0) →
+    ((t : ℕ) → t < m → beta last 3 (far base i t l) ≡ cond parting 0 (far base j t r)) →
+    ((t : ℕ) → t < m → beta last 3 (far base j t r) ≡ cond parting 0 (far base i t l)) →
+    Table (cond parting was last) (cond parting last was) base i j l r m
 table true was last base i j l r m wl wr nl nr = record { tab-l = wl; tab-r = wr; clr-l = nl; clr-r = nr }
 table false was last base i j l r m wl wr nl nr = record { tab-l = nl; tab-r = nr; clr-l = wl; clr-r = wr }
 
-pub both-ways : (un : Bool) (was last : List ℕ) (e : ℕ) → beta last 3 e ≡ beta was 3 e → beta (cond un was last) 3 e ≡ beta (cond un last was) 3 e
+pub both-ways : (parting : Bool) (was last : List ℕ) (e : ℕ) → beta last 3 e ≡ beta was 3 e →
+    beta (cond parting was last) 3 e ≡ beta (cond parting last was) 3 e
 both-ways true was last e q = sym q
 both-ways false was last e q = q
 
 -- the closed face
-module _ (un : Bool) (rows : List ℕ) (ld rd : ℕ) (s : WellFormed rows) (nl : ld ≢ 0) (m : ℕ) (w : LegOut)
-    (v : Trace un rows 1 0 ld rows ld rd (suc m) w) (z : w .leg .l ≡ ld) where
+module _ (parting : Bool) (rows : List ℕ) (ld rd : ℕ) (s : WellFormed rows) (nl : ld ≢ 0) (m : ℕ) (w : LegOut)
+    (v : Trace parting rows 1 0 ld rows ld rd (suc m) w) (z : w .leg .l ≡ ld) where
   abbrev L : ℕ → ℕ
   L t = far rows 1 t ld
 
@@ -86,16 +87,16 @@ module _ (un : Bool) (rows : List ℕ) (ld rd : ℕ) (s : WellFormed rows) (nl :
   R t = far rows 0 t rd
 
   abbrev tab : List ℕ
-  tab = cond un rows (w .rows)
+  tab = cond parting rows (w .rows)
 
   abbrev clr : List ℕ
-  clr = cond un (w .rows) rows
+  clr = cond parting (w .rows) rows
 
   abbrev pub Seen : ℕ → Type 0
   Seen d = (t : ℕ) × (t < suc m) × (d ≡ L t)
 
   pairs : Table tab clr rows 1 0 ld rd (suc m)
-  pairs = table un rows (w .rows) rows 1 0 ld rd (suc m) (v .was-l) (v .was-r) (v .now-l) (v .now-r)
+  pairs = table parting rows (w .rows) rows 1 0 ld rd (suc m) (v .was-l) (v .was-r) (v .now-l) (v .now-r)
 
   loop : L (suc m) ≡ ld
   loop = sym (v .end-l) ∙ z
@@ -139,7 +140,7 @@ module _ (un : Bool) (rows : List ℕ) (ld rd : ℕ) (s : WellFormed rows) (nl :
             let x = seen d c in
             (ap (λ (y : ℕ). beta clr 3 y) (x .2) ∙ pairs .clr-l (x .0) (x .1), ap (λ (y : ℕ). beta clr 3 y) (to d x) ∙ pairs .clr-r (x .0) (x .1));
         others = λ e a b.
-            both-ways un rows (w .rows) e
+            both-ways parting rows (w .rows) e
             (v .other e
             (λ t h. (
               λ y. a (subst (λ (x : ℕ). Chain rows ld x) (sym y) (in-chain t h)),

@@ -14,22 +14,22 @@ use Rattle.map_betas.proofs.Stores.{paired, pair-others}
 use Rattle.map_betas.specs.Chains.{far}
 use Rattle.map_betas.proofs.Chains.{Run}
 use Rattle.link_walk.specs.Walk.{stepOf, LegOut, walk}
-use Rattle.link_walk.proofs.StepLaws.{Changed, left, changed-formed, changed-low, changed-left}
+use Rattle.link_walk.proofs.StepLaws.{Changed, changeable, changed-formed, changed-low, changed-fewer}
 use Rattle.link_glue.proofs.Turns.{said, said-done, step-again, onto, at-null, at-stop}
 
-module _ (un : Bool) (base : List ℕ) (i j stop : ℕ) where
+module _ (parting : Bool) (base : List ℕ) (i j stop : ℕ) where
   -- the pairs ahead of l and r, as far as the left side runs
   pub record Fresh (rows : List ℕ) (l r : ℕ) : Type 0 where
     pub real-r : (u : ℕ) → Run base i stop l (suc u) → far base j u r ≢ 0
     pub diff-l : (u v : ℕ) → u < v → Run base i stop l (suc v) → far base i u l ≢ far base i v l
     pub diff-r : (u v : ℕ) → u < v → Run base i stop l (suc v) → far base j u r ≢ far base j v r
     pub apart : (u v : ℕ) → Run base i stop l (suc u) → Run base i stop l (suc v) → far base i u l ≢ far base j v r
-    pub was-l : (u : ℕ) → Run base i stop l (suc u) → beta rows 3 (far base i u l) ≡ cond un (far base j u r) 0
-    pub was-r : (u : ℕ) → Run base i stop l (suc u) → beta rows 3 (far base j u r) ≡ cond un (far base i u l) 0
+    pub was-l : (u : ℕ) → Run base i stop l (suc u) → beta rows 3 (far base i u l) ≡ cond parting (far base j u r) 0
+    pub was-r : (u : ℕ) → Run base i stop l (suc u) → beta rows 3 (far base j u r) ≡ cond parting (far base i u l) 0
 
   module _ (rows : List ℕ) (l r : ℕ) (c : Fresh rows l r) (nl : l ≢ 0) (ns : l ≢ stop) where
     abbrev rows′ : List ℕ
-    rows′ = paired un rows 3 l r
+    rows′ = paired parting rows 3 l r
 
     run-one : Run base i stop l 1
     unfolding far
@@ -41,7 +41,7 @@ module _ (un : Bool) (base : List ℕ) (i j stop : ℕ) where
     run-on n h zero q = (nl, ns)
     run-on n h (suc v) q = h v (omega arith)
 
-    first-pair : Changed un rows l r rows′
+    first-pair : Changed parting rows l r rows′
     unfolding far
     first-pair =
         record {
@@ -53,7 +53,7 @@ module _ (un : Bool) (base : List ℕ) (i j stop : ℕ) where
         }
 
     still : (d : ℕ) → d ≢ l → d ≢ r → beta rows′ 3 d ≡ beta rows 3 d
-    still d a b = pair-others un rows 3 l r rows′ first-pair 3 d (omega arith) (omega arith)
+    still d a b = pair-others parting rows 3 l r rows′ first-pair 3 d (omega arith) (omega arith)
 
     fresh-on : Fresh rows′ (beta base i l) (beta base j r)
     unfolding far
@@ -75,23 +75,23 @@ module _ (un : Bool) (base : List ℕ) (i j stop : ℕ) where
     abbrev Finishes : ℕ → Type 0
     Finishes f =
         (rows : List ℕ) (l r k : ℕ) → WellFormed rows → l < darts rows → r < darts rows → ((b d : ℕ) → b < 3 → beta rows b d ≡ beta base b d) →
-        left un rows < f → Fresh rows l r →
-        isDone (walk (stepOf un ld rd) f rows i j stop l r k .leg .answer) ≡ true
+        changeable parting rows < f → Fresh rows l r →
+        isDone (walk (stepOf parting ld rd) f rows i j stop l r k .leg .answer) ≡ true
 
     finish-on : (f : ℕ) → Finishes f → Finishes (suc f)
     finish-on f ih rows l r k s hl hr same z c =
         by-cases (ℕ-discrete l 0)
-        (λ (e : l ≡ 0). ap (λ (w : LegOut). isDone (w .leg .answer)) (at-null i j stop (stepOf un ld rd) f rows l r k e))
+        (λ (e : l ≡ 0). ap (λ (w : LegOut). isDone (w .leg .answer)) (at-null i j stop (stepOf parting ld rd) f rows l r k e))
         (λ (nl : l ≢ 0). by-cases (ℕ-discrete l stop)
-        (λ (e : l ≡ stop). ap (λ (w : LegOut). isDone (w .leg .answer)) (at-stop i j stop (stepOf un ld rd) f rows l r k e))
+        (λ (e : l ≡ stop). ap (λ (w : LegOut). isDone (w .leg .answer)) (at-stop i j stop (stepOf parting ld rd) f rows l r k e))
         (λ (ns : l ≢ stop).
-        let rows′ : List ℕ = paired un rows 3 l r in
-        let h : Changed un rows l r rows′ = first-pair rows l r c nl ns in
-        let same′ : (b d : ℕ) → b < 3 → beta rows′ b d ≡ beta base b d = λ b d hb. changed-low un rows l r rows′ s h hl hr nl b d hb ∙ same b d hb in
-        let s′ : WellFormed rows′ = changed-formed un rows l r rows′ s h hl hr nl in
-        let fell : left un rows′ < left un rows = changed-left un rows l r rows′ s h hl hr nl in
+        let rows′ : List ℕ = paired parting rows 3 l r in
+        let h : Changed parting rows l r rows′ = first-pair rows l r c nl ns in
+        let same′ : (b d : ℕ) → b < 3 → beta rows′ b d ≡ beta base b d = λ b d hb. changed-low parting rows l r rows′ s h hl hr nl b d hb ∙ same b d hb in
+        let s′ : WellFormed rows′ = changed-formed parting rows l r rows′ s h hl hr nl in
+        let fell : changeable parting rows′ < changeable parting rows = changed-fewer parting rows l r rows′ s h hl hr nl in
         ap (λ (w : LegOut). isDone (w .leg .answer))
-        (onto i j stop (stepOf un ld rd) f rows l r k nl ns (said un r) rows′ (step-again un ld rd rows l r rows′ h) (said-done un r))
+        (onto i j stop (stepOf parting ld rd) f rows l r k nl ns (said parting r) rows′ (step-again parting ld rd rows l r rows′ h) (said-done parting r))
         ∙ rw (same′ i l hi, same′ j r hj)
         (ih rows′ (beta base i l) (beta base j r) (suc k) s′ (rw (← same′ i l hi) (s′ .below i l)) (rw (← same′ j r hj) (s′ .below j r)) same′ (omega arith)
         (fresh-on rows l r c nl ns))))

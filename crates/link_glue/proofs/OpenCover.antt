@@ -16,9 +16,9 @@ use Rattle.link_glue.proofs.Trace.{clash, Trace}
 use Rattle.link_glue.proofs.Covers.{Cover, Table, table, both-ways}
 
 -- w after the first leg, u after the second
-module _ (un : Bool) (rows : List ℕ) (ld rd : ℕ) (s : WellFormed rows) (nl : ld ≢ 0) (m : ℕ) (w : LegOut)
-    (v : Trace un rows 1 0 ld rows ld rd (suc m) w) (zl : w .leg .l ≡ 0) (zr : w .leg .r ≡ 0)
-    (k : ℕ) (u : LegOut) (x₂ : Trace un rows 0 1 0 (w .rows) (beta rows 0 ld) (beta rows 1 rd) k u) where
+module _ (parting : Bool) (rows : List ℕ) (ld rd : ℕ) (s : WellFormed rows) (nl : ld ≢ 0) (m : ℕ) (w : LegOut)
+    (v : Trace parting rows 1 0 ld rows ld rd (suc m) w) (zl : w .leg .l ≡ 0) (zr : w .leg .r ≡ 0)
+    (k : ℕ) (u : LegOut) (x₂ : Trace parting rows 0 1 0 (w .rows) (beta rows 0 ld) (beta rows 1 rd) k u) where
   abbrev F : ℕ → ℕ
   F t = far rows 1 t ld
 
@@ -32,10 +32,10 @@ module _ (un : Bool) (rows : List ℕ) (ld rd : ℕ) (s : WellFormed rows) (nl :
   C t = far rows 1 t (beta rows 1 rd)
 
   abbrev tab : List ℕ
-  tab = cond un rows (u .rows)
+  tab = cond parting rows (u .rows)
 
   abbrev clr : List ℕ
-  clr = cond un (u .rows) rows
+  clr = cond parting (u .rows) rows
 
   abbrev pub Front : ℕ → Type 0
   Front d = (t : ℕ) × (t < suc m) × (d ≡ F t)
@@ -61,27 +61,27 @@ module _ (un : Bool) (rows : List ℕ) (ld rd : ℕ) (s : WellFormed rows) (nl :
   -- between the legs the first leg's pairs have changed, and the second's have not
   module _ (t q : ℕ) (h : t < suc m) (g : q < k) where
     front-rear : F t ≢ B q
-    front-rear e = clash un _ _ (sym (x₂ .was-l q g) ∙ ap (λ (y : ℕ). beta (w .rows) 3 y) (sym e) ∙ v .now-l t h) (x₂ .real-r q g) (v .real-r t h)
+    front-rear e = clash parting _ _ (sym (x₂ .was-l q g) ∙ ap (λ (y : ℕ). beta (w .rows) 3 y) (sym e) ∙ v .now-l t h) (x₂ .real-r q g) (v .real-r t h)
 
     front-image : F t ≢ C q
-    front-image e = clash un _ _ (sym (x₂ .was-r q g) ∙ ap (λ (y : ℕ). beta (w .rows) 3 y) (sym e) ∙ v .now-l t h) (x₂ .real-l q g) (v .real-r t h)
+    front-image e = clash parting _ _ (sym (x₂ .was-r q g) ∙ ap (λ (y : ℕ). beta (w .rows) 3 y) (sym e) ∙ v .now-l t h) (x₂ .real-l q g) (v .real-r t h)
 
     partner-rear : G t ≢ B q
-    partner-rear e = clash un _ _ (sym (x₂ .was-l q g) ∙ ap (λ (y : ℕ). beta (w .rows) 3 y) (sym e) ∙ v .now-r t h) (x₂ .real-r q g) (v .real-l t h)
+    partner-rear e = clash parting _ _ (sym (x₂ .was-l q g) ∙ ap (λ (y : ℕ). beta (w .rows) 3 y) (sym e) ∙ v .now-r t h) (x₂ .real-r q g) (v .real-l t h)
 
     partner-image : G t ≢ C q
-    partner-image e = clash un _ _ (sym (x₂ .was-r q g) ∙ ap (λ (y : ℕ). beta (w .rows) 3 y) (sym e) ∙ v .now-r t h) (x₂ .real-l q g) (v .real-l t h)
+    partner-image e = clash parting _ _ (sym (x₂ .was-r q g) ∙ ap (λ (y : ℕ). beta (w .rows) 3 y) (sym e) ∙ v .now-r t h) (x₂ .real-l q g) (v .real-l t h)
 
   -- so the first leg's pairs in the end, and the second's at first
   front : Table tab clr rows 1 0 ld rd (suc m)
   front =
-      table un rows (u .rows) rows 1 0 ld rd (suc m) (v .was-l) (v .was-r)
+      table parting rows (u .rows) rows 1 0 ld rd (suc m) (v .was-l) (v .was-r)
       (λ t h. x₂ .other (F t) (λ q g. (front-rear t q h g, front-image t q h g)) ∙ v .now-l t h)
       (λ t h. x₂ .other (G t) (λ q g. (partner-rear t q h g, partner-image t q h g)) ∙ v .now-r t h)
 
   rear : Table tab clr rows 0 1 (beta rows 0 ld) (beta rows 1 rd) k
   rear =
-      table un rows (u .rows) rows 0 1 (beta rows 0 ld) (beta rows 1 rd) k
+      table parting rows (u .rows) rows 0 1 (beta rows 0 ld) (beta rows 1 rd) k
       (λ q g. sym (v .other (B q) (λ t h. ((λ e. front-rear t q h g (sym e)), (λ e. partner-rear t q h g (sym e))))) ∙ x₂ .was-l q g)
       (λ q g. sym (v .other (C q) (λ t h. ((λ e. front-image t q h g (sym e)), (λ e. partner-image t q h g (sym e))))) ∙ x₂ .was-r q g)
       (x₂ .now-l) (x₂ .now-r)
@@ -181,7 +181,7 @@ module _ (un : Bool) (rows : List ℕ) (ld rd : ℕ) (s : WellFormed rows) (nl :
         outside = λ d c g. outside-open d (met d c) (met _ g);
         free = λ d c. free-open d (met d c);
         others = λ e a b.
-            both-ways un rows (u .rows) e
+            both-ways parting rows (u .rows) e
             (x₂ .other e
             (λ t h. (λ y. a (subst (λ (x : ℕ). Chain rows ld x) (sym y) (in-rear t h)), λ y. b (B t) (in-rear t h) (y ∙ sym (rear .tab-l t h))))
             ∙ v .other e

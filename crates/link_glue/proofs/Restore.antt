@@ -30,10 +30,10 @@ unlink-starts rows ld rd s el er n =
 
 module _ (entry : List ℕ) (ld rd : ℕ) (s : WellFormed entry) (hl : ld < darts entry) (nl : ld ≢ 0) (hr : rd < darts entry) (nr : rd ≢ 0) where
   -- a leg's length and start depend on nothing that a link changes
-  same-leg : (un : Bool) (i j stop : ℕ) (xs ys : List ℕ) → i < 3 → j < 3 → length xs ≡ length ys → ((b d : ℕ) → b < 3 → beta xs b d ≡ beta ys b d) →
-      (zs : List ℕ) → walk (stepOf un ld rd) (suc (length xs)) zs i j stop (beta xs i ld) (beta xs j rd) 0 ≡ walk (stepOf un ld rd) (suc (length ys))
+  same-leg : (parting : Bool) (i j stop : ℕ) (xs ys : List ℕ) → i < 3 → j < 3 → length xs ≡ length ys → ((b d : ℕ) → b < 3 → beta xs b d ≡ beta ys b d) →
+      (zs : List ℕ) → walk (stepOf parting ld rd) (suc (length xs)) zs i j stop (beta xs i ld) (beta xs j rd) 0 ≡ walk (stepOf parting ld rd) (suc (length ys))
       zs i j stop (beta ys i ld) (beta ys j rd) 0
-  same-leg un i j stop xs ys hi hj e same zs = rw (e, same i ld hi, same j rd hj)
+  same-leg parting i j stop xs ys hi hj e same zs = rw (e, same i ld hi, same j rd hj)
 
   restore-closed : (rows₁ : List ℕ) → Changed false entry ld rd rows₁ → (w : LegOut) → legOn false rows₁ ld rd ≡ w → isDone (w .leg .answer) ≡ true →
       w .leg .l ≢ 0 →

@@ -34,19 +34,19 @@ done-if : (b : Bool) (x y : Out) → isDone (y .answer) ≡ false → isDone (co
 done-if true x y f t = (refl, refl)
 done-if false x y f t = absurd (true≢false (sym t ∙ f))
 
-pub data Success (un : Bool) (d : ℕ) (entry : List ℕ) (ld rd : ℕ) (o : Out) : Type 0 where
-  closed : (rows₁ : List ℕ) → Changed un entry ld rd rows₁ → (w : LegOut) → legOn un rows₁ ld rd ≡ w → isDone (w .leg .answer) ≡ true → w .leg .l ≢ 0 →
-      o ≡ out (Done d 0) (w .rows) → Success un d entry ld rd o
-  opened : (rows₁ : List ℕ) → Changed un entry ld rd rows₁ → (w : LegOut) → legOn un rows₁ ld rd ≡ w → isDone (w .leg .answer) ≡ true → w .leg .l ≡ 0 →
-      w .leg .r ≡ 0 →
-      (u : LegOut) → legBack un (w .rows) ld rd ≡ u → isDone (u .leg .answer) ≡ true → o ≡ out (Done d 0) (u .rows) → Success un d entry ld rd o
+pub data Success (parting : Bool) (d : ℕ) (entry : List ℕ) (ld rd : ℕ) (o : Out) : Type 0 where
+  closed : (rows₁ : List ℕ) → Changed parting entry ld rd rows₁ → (w : LegOut) → legOn parting rows₁ ld rd ≡ w → isDone (w .leg .answer) ≡ true →
+      w .leg .l ≢ 0 → o ≡ out (Done d 0) (w .rows) → Success parting d entry ld rd o
+  opened : (rows₁ : List ℕ) → Changed parting entry ld rd rows₁ → (w : LegOut) → legOn parting rows₁ ld rd ≡ w → isDone (w .leg .answer) ≡ true →
+      w .leg .l ≡ 0 → w .leg .r ≡ 0 →
+      (u : LegOut) → legBack parting (w .rows) ld rd ≡ u → isDone (u .leg .answer) ≡ true → o ≡ out (Done d 0) (u .rows) → Success parting d entry ld rd o
 
-module _ (un : Bool) (d : ℕ) (entry : List ℕ) (ld rd : ℕ) where
-  after-leg : (rows₁ : List ℕ) → Changed un entry ld rd rows₁ → (w : LegOut) → legOn un rows₁ ld rd ≡ w →
-      isDone (afterLeg un d entry ld rd w .answer) ≡ true → Success un d entry ld rd (afterLeg un d entry ld rd w)
+module _ (parting : Bool) (d : ℕ) (entry : List ℕ) (ld rd : ℕ) where
+  after-leg : (rows₁ : List ℕ) → Changed parting entry ld rd rows₁ → (w : LegOut) → legOn parting rows₁ ld rd ≡ w →
+      isDone (afterLeg parting d entry ld rd w .answer) ≡ true → Success parting d entry ld rd (afterLeg parting d entry ld rd w)
   after-leg rows₁ h w e t =
       let p = done-through (w .leg .answer) _ entry t in
-      let last : Out = lastLeg d entry (legBack un (w .rows) ld rd) in
+      let last : Out = lastLeg d entry (legBack parting (w .rows) ld rd) in
       let uneven : Out = out (Refused (AsymmetricalFaces ld rd)) entry in
       let way : Bool → Out = λ (x : Bool). cond x (cond (eqb (w .leg .r) 0) last uneven) (out (Done d 0) (w .rows)) in
       by-cases (ℕ-discrete (w .leg .l) 0)
@@ -56,24 +56,24 @@ module _ (un : Bool) (d : ℕ) (entry : List ℕ) (ld rd : ℕ) where
       let t₂ = done-if (eqb (w .leg .r) 0) last uneven refl (ap (λ (o : Out). isDone (o .answer)) (sym q) ∙ t) in
       by-cases (ℕ-discrete (w .leg .r) 0)
       (λ (y : w .leg .r ≡ 0).
-      let t₃ = done-through (legBack un (w .rows) ld rd .leg .answer) (out (Done d 0) (legBack un (w .rows) ld rd .rows)) entry
+      let t₃ = done-through (legBack parting (w .rows) ld rd .leg .answer) (out (Done d 0) (legBack parting (w .rows) ld rd .rows)) entry
       (ap (λ (o : Out). isDone (o .answer)) (sym (q ∙ t₂ .1)) ∙ t) in
-      opened rows₁ h w e (p .0) z y (legBack un (w .rows) ld rd) refl (t₃ .0) (q ∙ t₂ .1 ∙ t₃ .1))
+      opened rows₁ h w e (p .0) z y (legBack parting (w .rows) ld rd) refl (t₃ .0) (q ∙ t₂ .1 ∙ t₃ .1))
       (λ (y : w .leg .r ≢ 0). absurd (true≢false (sym (t₂ .0) ∙ ne-eqb _ _ y))))
       (λ (z : w .leg .l ≢ 0).
       let b : eqb (w .leg .l) 0 ≡ false = ne-eqb _ _ z in
       closed rows₁ h w e (p .0) z (p .1 ∙ ap way b))
 
-  success : WellFormed entry → ld ≢ 0 → isDone (afterCore un d entry ld rd (stepOf un ld rd entry ld rd) .answer) ≡ true →
-      Success un d entry ld rd (afterCore un d entry ld rd (stepOf un ld rd entry ld rd))
-  success s nl = go (stepOf un ld rd entry ld rd) refl
+  success : WellFormed entry → ld ≢ 0 → isDone (afterCore parting d entry ld rd (stepOf parting ld rd entry ld rd) .answer) ≡ true →
+      Success parting d entry ld rd (afterCore parting d entry ld rd (stepOf parting ld rd entry ld rd))
+  success s nl = go (stepOf parting ld rd entry ld rd) refl
     where
-      go : (o : Out) → o ≡ stepOf un ld rd entry ld rd → isDone (afterCore un d entry ld rd o .answer) ≡ true →
-          Success un d entry ld rd (afterCore un d entry ld rd o)
+      go : (o : Out) → o ≡ stepOf parting ld rd entry ld rd → isDone (afterCore parting d entry ld rd o .answer) ≡ true →
+          Success parting d entry ld rd (afterCore parting d entry ld rd o)
       go o e t =
-          let p = done-through (o .answer) (afterLeg un d entry ld rd (legOn un (o .rows) ld rd)) entry t in
-          let h = step-done entry (o .answer) (o .rows) ld rd ld rd un s nl e (p .0) in
-          rw (p .1) (after-leg (o .rows) h (legOn un (o .rows) ld rd) refl (ap (λ (x : Out). isDone (x .answer)) (sym (p .1)) ∙ t))
+          let p = done-through (o .answer) (afterLeg parting d entry ld rd (legOn parting (o .rows) ld rd)) entry t in
+          let h = step-done entry (o .answer) (o .rows) ld rd ld rd parting s nl e (p .0) in
+          rw (p .1) (after-leg (o .rows) h (legOn parting (o .rows) ld rd) refl (ap (λ (x : Out). isDone (x .answer)) (sym (p .1)) ∙ t))
 
 pub link-success : (entry : List ℕ) (ld rd : ℕ) → WellFormed entry → ld ≢ 0 → rd ≢ 0 → isDone (threeLinkOn entry ld rd .answer) ≡ true →
     Success false 0 entry ld rd (threeLinkOn entry ld rd)

@@ -22,14 +22,14 @@ use Rattle.link_walk.proofs.StepLaws.{Changed, step-link, step-unlink}
 
 -- what a step answers
 abbrev pub said : Bool → ℕ → Answer
-said un r = cond un (Done r 0) pass
+said parting r = cond parting (Done r 0) pass
 
-pub said-done : (un : Bool) (r : ℕ) → isDone (said un r) ≡ true
+pub said-done : (parting : Bool) (r : ℕ) → isDone (said parting r) ≡ true
 said-done true r = refl
 said-done false r = refl
 
-pub step-again : (un : Bool) (ld rd : ℕ) (rows : List ℕ) (l r : ℕ) (rows′ : List ℕ) → Changed un rows l r rows′ →
-    out (said un r) rows′ ≡ stepOf un ld rd rows l r
+pub step-again : (parting : Bool) (ld rd : ℕ) (rows : List ℕ) (l r : ℕ) (rows′ : List ℕ) → Changed parting rows l r rows′ →
+    out (said parting r) rows′ ≡ stepOf parting ld rd rows l r
 step-again false ld rd rows l r rows′ h =
     link-done rows 3 l r 3 (set rows (place 3 l) r) rows′ refl (h .was-l) (h .was-r) (h .apart) refl (h .put) ∙ step-link ld rd rows l r (h .real)
 step-again true ld rd rows l r rows′ h =
@@ -53,36 +53,37 @@ module _ (i j stop : ℕ) (s : List ℕ → ℕ → ℕ → Out) (f : ℕ) (rows
     unfolding walk
     stays t = simp (ne-eqb l 0 nl, ne-eqb l stop ns, ← e, t)
 
-module _ (un : Bool) (ld rd i j stop : ℕ) where
+module _ (parting : Bool) (ld rd i j stop : ℕ) where
   abbrev leg : ℕ → List ℕ → ℕ → ℕ → ℕ → LegOut
-  leg f rows l r k = walk (stepOf un ld rd) f rows i j stop l r k
+  leg f rows l r k = walk (stepOf parting ld rd) f rows i j stop l r k
 
   -- a refusal is none of the two
   pub data Turn (f : ℕ) (rows : List ℕ) (l r k : ℕ) : Type 0 where
     ends : (l ≡ 0) ⊎ (l ≡ stop) → ((s : List ℕ → ℕ → ℕ → Out) (xs : List ℕ) → walk s (suc f) xs i j stop l r k ≡ legOut (legAt pass l r k) xs) →
         Turn f rows l r k
-    goes : l ≢ 0 → l ≢ stop → (rows′ : List ℕ) → Changed un rows l r rows′ → leg (suc f) rows l r k ≡ leg f rows′ (beta rows′ i l) (beta rows′ j r) (suc k) →
+    goes : l ≢ 0 → l ≢ stop → (rows′ : List ℕ) → Changed parting rows l r rows′ →
+        leg (suc f) rows l r k ≡ leg f rows′ (beta rows′ i l) (beta rows′ j r) (suc k) →
         Turn f rows l r k
 
   -- given that a step which is done changes its pair
   pub turn-of : (f : ℕ) (rows : List ℕ) (l r k : ℕ) →
-      (l ≢ 0 → isDone (stepOf un ld rd rows l r .answer) ≡ true → Changed un rows l r (stepOf un ld rd rows l r .rows)) →
+      (l ≢ 0 → isDone (stepOf parting ld rd rows l r .answer) ≡ true → Changed parting rows l r (stepOf parting ld rd rows l r .rows)) →
       isDone (leg (suc f) rows l r k .leg .answer) ≡ true → Turn f rows l r k
   turn-of f rows l r k c t =
       by-cases (ℕ-discrete l 0)
       (λ (e : l ≡ 0). ends (inl e) (λ s xs. at-null i j stop s f xs l r k e))
       (λ (nl : l ≢ 0). by-cases (ℕ-discrete l stop)
       (λ (e : l ≡ stop). ends (inr e) (λ s xs. at-stop i j stop s f xs l r k e))
-      (λ (ns : l ≢ stop). go nl ns (isDone (stepOf un ld rd rows l r .answer)) refl))
+      (λ (ns : l ≢ stop). go nl ns (isDone (stepOf parting ld rd rows l r .answer)) refl))
     where
-      go : l ≢ 0 → l ≢ stop → (b : Bool) → isDone (stepOf un ld rd rows l r .answer) ≡ b → Turn f rows l r k
+      go : l ≢ 0 → l ≢ stop → (b : Bool) → isDone (stepOf parting ld rd rows l r .answer) ≡ b → Turn f rows l r k
       go nl ns true d =
-          goes nl ns (stepOf un ld rd rows l r .rows) (c nl d)
-          (onto i j stop (stepOf un ld rd) f rows l r k nl ns (stepOf un ld rd rows l r .answer) (stepOf un ld rd rows l r .rows) refl d)
+          goes nl ns (stepOf parting ld rd rows l r .rows) (c nl d)
+          (onto i j stop (stepOf parting ld rd) f rows l r k nl ns (stepOf parting ld rd rows l r .answer) (stepOf parting ld rd rows l r .rows) refl d)
       go nl ns false d =
           absurd (true≢false (sym t
           ∙ ap (λ (w : LegOut). isDone (w .leg .answer))
-          (stays i j stop (stepOf un ld rd) f rows l r k nl ns (stepOf un ld rd rows l r .answer) (stepOf un ld rd rows l r .rows) refl d)
+          (stays i j stop (stepOf parting ld rd) f rows l r k nl ns (stepOf parting ld rd rows l r .answer) (stepOf parting ld rd rows l r .rows) refl d)
           ∙ d))
 
   pub done-of : (f : ℕ) (rows : List ℕ) (l r k : ℕ) (w : LegOut) → leg f rows l r k ≡ w → isDone (w .leg .answer) ≡ true →

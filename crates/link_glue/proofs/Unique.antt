@@ -73,6 +73,7 @@ module _ (rows : List ℕ) (ld rd : ℕ) (p : ℕ → ℕ) (s : WellFormed rows)
         right = λ d c. ap (λ (y : ℕ). beta (threeLinkOn rows ld rd .rows) 3 y) (sym (partner-is d c)) ∙ g .right d c;
         others = λ e a b. g .others e a (λ d c z. b d c (z ∙ partner-is d c));
         lower = g .lower;
+        long = g .long;
       }
 
 pub unique : (rows : List ℕ) (ld rd : ℕ) → WellFormed rows → ld ≢ 0 → ld < darts rows → rd < darts rows → (p q : ℕ → ℕ) → Matching rows ld rd p →

@@ -10,6 +10,7 @@ use Prim.Native.Nat.{ℕ, _<_}
 use mathlib.Core.Path.{_≡_}
 use mathlib.Core.Logic.{_≢_}
 use mathlib.Core.List.{List}
+use lib.ListN.{length}
 use Rattle.map_betas.specs.Betas.{beta, darts}
 pub use Rattle.map_betas.specs.Chains.{Chain, first, on, back}
 
@@ -47,6 +48,8 @@ pub record Linked (rows : List ℕ) (ld : ℕ) (p : ℕ → ℕ) (rows′ : List
   pub others : (e : ℕ) → (Chain rows ld e → ⊥) → ((d : ℕ) → Chain rows ld d → e ≢ p d) → beta rows′ 3 e ≡ beta rows 3 e
   -- and so is every image by beta 0, 1 and 2
   pub lower : (i d : ℕ) → i < 3 → beta rows′ i d ≡ beta rows i d
+  -- and there are as many rows
+  pub long : length rows′ ≡ length rows
 
 -- The partner of a dart is its beta 3 image.
 pub record Unlinkable (rows : List ℕ) (ld : ℕ) : Type 0 where
@@ -63,3 +66,5 @@ pub record Unlinked (rows : List ℕ) (ld : ℕ) (rows′ : List ℕ) : Type 0 w
   -- every other image is as it was
   pub others : (e : ℕ) → (Chain rows ld e → ⊥) → ((d : ℕ) → Chain rows ld d → e ≢ beta rows 3 d) → beta rows′ 3 e ≡ beta rows 3 e
   pub lower : (i d : ℕ) → i < 3 → beta rows′ i d ≡ beta rows i d
+  -- and there are as many rows
+  pub long : length rows′ ≡ length rows

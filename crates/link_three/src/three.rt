@@ -1,5 +1,5 @@
 // The 3-link and the 3-unlink: the darts of two faces, pair by pair. Ports dim3/links/three.rs.
-use link_walk::walk::pick;
+use link_walk::walk::former;
 use link_walk::walk::step;
 use link_walk::walk::undo_leg;
 use link_walk::walk::walk_leg;
@@ -21,50 +21,51 @@ ghost use Rattle.link_walk.specs.Three.{legBack, lastLeg, afterCore, threeLinkO
 ghost use Rattle.link_walk.specs.Calls.{threeLink, threeUnlink};
 
 // The second leg, back from ld. After a refusal the pairs of both legs are set back, of the first as many as steps.
-fn back(rows: &mut [u32], un: bool, ld: u32, rd: u32, steps: usize) -> Answer
+fn back(rows: &mut [u32], parting: bool, ld: u32, rd: u32, steps: usize) -> Answer
     requires { ⌜ WellFormed (now rows) × (ld < darts (now rows)) × (rd < darts (now rows)) ⌝ }
-    ensures { λ a. ⌜ out a (now (rows .exit)) ≡ lastLeg (cond un rd 0) (undone un steps (now (rows .entry)) 1 0 ld rd)
-        (legBack un (now (rows .entry)) ld rd) ⌝ }
+    ensures { λ a. ⌜ out a (now (rows .exit)) ≡ lastLeg (cond parting rd 0) (undone parting steps (now (rows .entry)) 1 0 ld rd)
+        (legBack parting (now (rows .entry)) ld rd) ⌝ }
 {
     let l = beta_at(rows, 0, ld);
     let r = beta_at(rows, 1, rd);
-    let w = walk_leg(rows, un, 0, 1, 0, ld, rd, l, r);
+    let w = walk_leg(rows, parting, 0, 1, 0, ld, rd, l, r);
     let last = w.answer;
     if !is_done(last) {
         let taken = w.steps;
-        undo_leg(rows, un, 0, 1, l, r, taken);
-        undo_leg(rows, un, 1, 0, ld, rd, steps);
+        undo_leg(rows, parting, 0, 1, l, r, taken);
+        undo_leg(rows, parting, 1, 0, ld, rd, steps);
         return last;
     }
-    Answer::Done(pick(un, rd), 0)
+    Answer::Done(former(parting, rd), 0)
 }
 
-// The 3-link of ld and rd, or their 3-unlink where un holds. After a refusal the rows are as they were.
-fn three_on(rows: &mut [u32], un: bool, ld: u32, rd: u32) -> Answer
+// The 3-link of ld and rd, or their 3-unlink where parting holds. After a refusal the rows are as they were.
+fn three_on(rows: &mut [u32], parting: bool, ld: u32, rd: u32) -> Answer
     requires { ⌜ WellFormed (now rows) × (0 < ld) × (ld < darts (now rows)) × (rd < darts (now rows)) ⌝ }
-    ensures { λ a. ⌜ out a (now (rows .exit)) ≡ afterCore un (cond un rd 0) (now (rows .entry)) ld rd (stepOf un ld rd (now (rows .entry)) ld rd) ⌝ }
+    ensures { λ a. ⌜ out a (now (rows .exit)) ≡ afterCore parting (cond parting rd 0) (now (rows .entry)) ld rd
+        (stepOf parting ld rd (now (rows .entry)) ld rd) ⌝ }
 {
-    let a = step(rows, un, ld, rd, ld, rd);
+    let a = step(rows, parting, ld, rd, ld, rd);
     if !is_done(a) {
         return a;
     }
     let l1 = beta_at(rows, 1, ld);
     let r1 = beta_at(rows, 0, rd);
-    let w = walk_leg(rows, un, 1, 0, ld, ld, rd, l1, r1);
+    let w = walk_leg(rows, parting, 1, 0, ld, ld, rd, l1, r1);
     let b = w.answer;
     let steps = w.steps + 1;
     if !is_done(b) {
-        undo_leg(rows, un, 1, 0, ld, rd, steps);
+        undo_leg(rows, parting, 1, 0, ld, rd, steps);
         return b;
     }
     if w.l != 0 {
-        return Answer::Done(pick(un, rd), 0);
+        return Answer::Done(former(parting, rd), 0);
     }
     if w.r != 0 {
-        undo_leg(rows, un, 1, 0, ld, rd, steps);
+        undo_leg(rows, parting, 1, 0, ld, rd, steps);
         return Answer::Refused(Refusal::AsymmetricalFaces(ld, rd));
     }
-    back(rows, un, ld, rd, steps)
+    back(rows, parting, ld, rd, steps)
 }
 
 // The 3-link of two real darts of a map.

@@ -12,14 +12,12 @@ use mathlib.Core.List.{List}
 use mathlib.Core.Bool.{Bool, true, false, cond, true≢false}
 use Rattle.map_betas.specs.declared.error.Answer.{Answer}
 use Rattle.map_betas.specs.declared.loans.Loans.{Loans}
-use Rattle.map_betas.specs.Betas.{darts}
-use Rattle.map_betas.specs.Answers.{Outcome, outcome, pass, isDone, andThen, behind}
-use Rattle.map_betas.specs.Maps.{sizeTest, mapTest}
-use Rattle.map_betas.specs.Guards.{noLoans, loanTest, dartTest, guardOf}
+use Rattle.map_betas.specs.Answers.{Outcome, outcome, pass, isDone, behind}
+use Rattle.map_betas.specs.Guards.{noLoans, guardOf}
 use Rattle.link_walk.specs.Calls.{Real}
-use Rattle.map_betas.proofs.AnswerLaws.{first-done, then-done, goes-on, behind-done}
-use Rattle.map_betas.proofs.Formed.{formed-iff}
-use Rattle.map_betas.proofs.GuardLaws.{ready, loan-none, dart-good, dart-both}
+use Rattle.map_betas.proofs.AnswerLaws.{behind-done}
+use Rattle.map_betas.proofs.GuardLaws.{ready}
+use Rattle.map_betas.proofs.Guarded.{guard-iff}
 
 pub tested : (rows : List ℕ) (x : Loans) (a b : ℕ) (g : Answer) → x ≡ noLoans → g ≡ guardOf rows x 1 a b → g ≡ guardOf rows noLoans 1 a b
 tested rows x a b g p e = e ∙ ap (λ (y : Loans). guardOf rows y 1 a b) p
@@ -32,17 +30,23 @@ passed rows a b g e t =
     (h .formed, l .allowed, l .below, r .allowed, r .below)
 
 pub admits : (rows : List ℕ) (a b : ℕ) → Real rows a b → pass ≡ guardOf rows noLoans 1 a b
-unfolding guardOf
 admits rows a b h =
-    let n : ℕ = darts rows in
     let few = h .0 .sized .few in
-    let m : isDone (andThen (sizeTest rows) (mapTest rows)) ≡ true = ap isDone (formed-iff rows .1 (h .0)) in
-    let s = first-done (sizeTest rows) (mapTest rows) m in
-    let t = then-done (sizeTest rows) (mapTest rows) m in
-    let l : pass ≡ loanTest n noLoans =
-    loan-none n noLoans (omega arith) (omega arith) (omega arith) (omega arith) (omega arith) (omega arith) in
-    let d : pass ≡ dartTest n 1 a b = dart-both n 1 a b (dart-good n 1 a (h .1) (h .2)) (dart-good n 1 b (h .3) (h .4)) in
-    d ∙ goes-on (mapTest rows) (mapTest rows) _ refl t ∙ goes-on pass (loanTest n noLoans) _ l refl ∙ goes-on (sizeTest rows) (sizeTest rows) _ refl s
+    sym (guard-iff rows noLoans 1 a b .1
+    (record {
+      formed = h .0;
+      lent =
+          record {
+            marks = omega arith;
+            queue = omega arith;
+            output = omega arith;
+            flags = omega arith;
+            vertices = omega arith;
+            coordinates = omega arith;
+          };
+      left = record { allowed = h .1; below = h .2 };
+      right = record { allowed = h .3; below = h .4 };
+    }))
 
 module _ (rows : List ℕ) (a b : ℕ) (o : Outcome (List ℕ)) where
   pub through : isDone (behind (guardOf rows noLoans 1 a b) rows o .answer) ≡ true → Real rows a b × (behind (guardOf rows noLoans 1 a b) rows o ≡ o)

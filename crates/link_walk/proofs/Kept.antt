@@ -40,19 +40,19 @@ module _ (entry : List ℕ) where
   either false x y kx ky = ky
 
 -- the link or the unlink of ld and rd, whatever it answers
-module _ (un : Bool) (d : ℕ) (entry : List ℕ) (ld rd : ℕ) (s : WellFormed entry) (hl : ld < darts entry) (hr : rd < darts entry) (nl : ld ≢ 0) where
-  leg-kept : (rows₁ : List ℕ) → Changed un entry ld rd rows₁ → Keeps entry (afterLeg un d entry ld rd (legOn un rows₁ ld rd) .rows)
+module _ (parting : Bool) (d : ℕ) (entry : List ℕ) (ld rd : ℕ) (s : WellFormed entry) (hl : ld < darts entry) (hr : rd < darts entry) (nl : ld ≢ 0) where
+  leg-kept : (rows₁ : List ℕ) → Changed parting entry ld rd rows₁ → Keeps entry (afterLeg parting d entry ld rd (legOn parting rows₁ ld rd) .rows)
   leg-kept rows₁ h =
-      let s₁ = changed-formed un entry ld rd rows₁ s h hl hr nl in
-      let q₁ = changed-length un entry ld rd rows₁ s h hl hr nl in
-      let w : LegOut = legOn un rows₁ ld rd in
-      let g : Walked un rows₁ 1 0 (beta rows₁ 1 ld) (beta rows₁ 0 rd) 0 w =
-      walked un ld rd 1 0 ld (omega arith) (omega arith) (suc (length rows₁)) rows₁ (beta rows₁ 1 ld) (beta rows₁ 0 rd) 0 s₁ (s₁ .below 1 ld)
+      let s₁ = changed-formed parting entry ld rd rows₁ s h hl hr nl in
+      let q₁ = changed-length parting entry ld rd rows₁ s h hl hr nl in
+      let w : LegOut = legOn parting rows₁ ld rd in
+      let g : Walked parting rows₁ 1 0 (beta rows₁ 1 ld) (beta rows₁ 0 rd) 0 w =
+      walked parting ld rd 1 0 ld (omega arith) (omega arith) (suc (length rows₁)) rows₁ (beta rows₁ 1 ld) (beta rows₁ 0 rd) 0 s₁ (s₁ .below 1 ld)
       (s₁ .below 0 rd) in
       let s₂ = g .formed in
-      let v : LegOut = legBack un (w .rows) ld rd in
-      let g₂ : Walked un (w .rows) 0 1 (beta (w .rows) 0 ld) (beta (w .rows) 1 rd) 0 v =
-      walked un ld rd 0 1 0 (omega arith) (omega arith) (suc (length (w .rows))) (w .rows) (beta (w .rows) 0 ld) (beta (w .rows) 1 rd) 0 s₂
+      let v : LegOut = legBack parting (w .rows) ld rd in
+      let g₂ : Walked parting (w .rows) 0 1 (beta (w .rows) 0 ld) (beta (w .rows) 1 rd) 0 v =
+      walked parting ld rd 0 1 0 (omega arith) (omega arith) (suc (length (w .rows))) (w .rows) (beta (w .rows) 0 ld) (beta (w .rows) 1 rd) 0 s₂
       (s₂ .below 0 ld) (s₂ .below 1 rd) in
       let last : Out = lastLeg d entry v in
       let uneven : Out = out (Refused (AsymmetricalFaces ld rd)) entry in
@@ -65,12 +65,12 @@ module _ (un : Bool) (d : ℕ) (entry : List ℕ) (ld rd : ℕ) (s : WellFormed 
       let kept-whole : Keeps entry (whole .rows) = either entry (eqb (w .leg .l) 0) open′ (out (Done d 0) (w .rows)) kept-open (s₂, long) in
       either entry (isDone (w .leg .answer)) whole (out (w .leg .answer) entry) kept-whole (s, refl)
 
-  pub three-kept : Keeps entry (afterCore un d entry ld rd (stepOf un ld rd entry ld rd) .rows)
-  three-kept = go (stepOf un ld rd entry ld rd) refl (isDone (stepOf un ld rd entry ld rd .answer)) refl
+  pub three-kept : Keeps entry (afterCore parting d entry ld rd (stepOf parting ld rd entry ld rd) .rows)
+  three-kept = go (stepOf parting ld rd entry ld rd) refl (isDone (stepOf parting ld rd entry ld rd .answer)) refl
     where
-      go : (o : Out) → o ≡ stepOf un ld rd entry ld rd → (b : Bool) → isDone (o .answer) ≡ b →
-          Keeps entry (cond b (afterLeg un d entry ld rd (legOn un (o .rows) ld rd)) (out (o .answer) entry) .rows)
-      go o e true t = leg-kept (o .rows) (step-done entry (o .answer) (o .rows) ld rd ld rd un s nl e t)
+      go : (o : Out) → o ≡ stepOf parting ld rd entry ld rd → (b : Bool) → isDone (o .answer) ≡ b →
+          Keeps entry (cond b (afterLeg parting d entry ld rd (legOn parting (o .rows) ld rd)) (out (o .answer) entry) .rows)
+      go o e true t = leg-kept (o .rows) (step-done entry (o .answer) (o .rows) ld rd ld rd parting s nl e t)
       go o e false t = (s, refl)
 
 pub link-kept : (rows : List ℕ) (ld rd : ℕ) → WellFormed rows → ld < darts rows → ld ≢ 0 → rd < darts rows → rd ≢ 0 → Keeps rows (threeLinkOn rows ld rd .rows)
@@ -161,10 +161,10 @@ module _ (rows : List ℕ) where
       tested (guardOf rows noLoans 1 ld ld) _
       (or-else (eqb (beta rows i ld) 0) _ _ (here (Refused (AlreadyFree i ld))) (done (beta rows i ld) (cut rows i ld (beta rows i ld))))
 
-  three-unmoved : (un : Bool) (d ld rd : ℕ) (o : Out) → Unmoved rows (given (afterCore un d rows ld rd o))
-  three-unmoved un d ld rd o =
-      let w : LegOut = legOn un (o .rows) ld rd in
-      let v : LegOut = legBack un (w .rows) ld rd in
+  three-unmoved : (parting : Bool) (d ld rd : ℕ) (o : Out) → Unmoved rows (given (afterCore parting d rows ld rd o))
+  three-unmoved parting d ld rd o =
+      let w : LegOut = legOn parting (o .rows) ld rd in
+      let v : LegOut = legBack parting (w .rows) ld rd in
       or-else (isDone (o .answer)) _ _
       (or-else (isDone (w .leg .answer)) _ _
       (or-else (eqb (w .leg .l) 0) _ _

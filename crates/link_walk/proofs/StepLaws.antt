@@ -4,8 +4,8 @@
 --   link-step-done, step-done   a step that is done changes its pair
 --   step-kept              a step that refuses leaves the rows
 --   formed-inside          a map's images are all darts
---   left, left-le          how many places a walk can still change
---   changed-..             what a change leaves: a map (`changed-formed`), the other images, fewer places to change (`changed-left`)
+--   changeable, changeable-le   how many places a walk can still change
+--   changed-..             what a change leaves: a map (`changed-formed`), the other images, fewer places to change (`changed-fewer`)
 -- Assumes nothing.
 use Prim.Native.Nat.{ℕ, _-_, _<_, _≤_}
 use native.Mathlib.Omega.{arith}
@@ -32,7 +32,7 @@ use Rattle.link_walk.proofs.Stores.{zeros, zeros-le, zeros-fill, zeros-
 
 -- the pair was free and is linked by beta 3, or was linked and is free
 abbrev pub Changed : Bool → List ℕ → ℕ → ℕ → List ℕ → Type 0
-Changed un rows l r rows′ = PairChanged un rows 3 l r rows′
+Changed parting rows l r rows′ = PairChanged parting rows 3 l r rows′
 
 -- the cases of a step
 
@@ -62,7 +62,7 @@ module _ (rows : List ℕ) (a : Answer) (rows′ : List ℕ) (ld rd l r : ℕ) w
       let q : linkCore rows 3 l r ≡ out a rows′ = step-link ld rd rows l r n ∙ sym e in
       rw (sym (rows-same _ _ q)) (link-changed rows 3 l r (ap (λ (o : Out). isDone (o .answer)) q ∙ t) n))
 
-  pub step-done : (un : Bool) → WellFormed rows → l ≢ 0 → out a rows′ ≡ stepOf un ld rd rows l r → isDone a ≡ true → Changed un rows l r rows′
+  pub step-done : (parting : Bool) → WellFormed rows → l ≢ 0 → out a rows′ ≡ stepOf parting ld rd rows l r → isDone a ≡ true → Changed parting rows l r rows′
   step-done false w nl e t = link-step-done e t
   step-done true w nl e t =
       by-cases (ℕ-discrete l (beta rows 3 r))
@@ -72,7 +72,7 @@ module _ (rows : List ℕ) (a : Answer) (rows′ : List ℕ) (ld rd l r : ℕ) w
       rw (sym (rows-same _ _ q), b) (unlink-changed rows 3 l w (omega arith) (omega arith) (ap (λ (o : Out). isDone (o .answer)) q ∙ t)))
       (λ (p : l ≢ beta rows 3 r). absurd (not-both _ _ (e ∙ sym (step-stray ld rd rows l r p)) refl t))
 
-  pub step-kept : (un : Bool) → out a rows′ ≡ stepOf un ld rd rows l r → isDone a ≡ false → rows′ ≡ rows
+  pub step-kept : (parting : Bool) → out a rows′ ≡ stepOf parting ld rd rows l r → isDone a ≡ false → rows′ ≡ rows
   step-kept false e t =
       by-cases (ℕ-discrete r 0)
       (λ (z : r ≡ 0). rows-same _ _ (e ∙ sym (step-null ld rd rows l r z)))
@@ -91,43 +91,44 @@ pub formed-inside : (rows : List ℕ) → WellFormed rows → Inside (darts rows
 formed-inside rows w = record { whole = w .sized .whole; below = places-below rows w }
 
 -- the number that falls: of a link the null places, of an unlink the others
-abbrev pub left : Bool → List ℕ → ℕ
-left false rows = zeros rows
-left true rows = length rows - zeros rows
+abbrev pub changeable : Bool → List ℕ → ℕ
+changeable false rows = zeros rows
+changeable true rows = length rows - zeros rows
 
-pub left-le : (un : Bool) (rows : List ℕ) → left un rows ≤ length rows
-left-le false rows = zeros-le rows
-left-le true rows = omega arith
+pub changeable-le : (parting : Bool) (rows : List ℕ) → changeable parting rows ≤ length rows
+changeable-le false rows = zeros-le rows
+changeable-le true rows = omega arith
 
 -- what a change of a pair leaves: the laws of `PairChanged` at beta 3
-module _ (un : Bool) (rows : List ℕ) (l r : ℕ) (rows′ : List ℕ) (w : WellFormed rows) (h : Changed un rows l r rows′) (hl : l < darts rows)
+module _ (parting : Bool) (rows : List ℕ) (l r : ℕ) (rows′ : List ℕ) (w : WellFormed rows) (h : Changed parting rows l r rows′) (hl : l < darts rows)
     (hr : r < darts rows)
     (nl : l ≢ 0) where
   pub changed-length : length rows′ ≡ length rows
-  changed-length = pair-length un rows 3 l r rows′ h
+  changed-length = pair-length parting rows 3 l r rows′ h
 
   pub changed-low : (i d : ℕ) → i < 3 → beta rows′ i d ≡ beta rows i d
-  changed-low i d hi = pair-others un rows 3 l r rows′ h i d (omega arith) (omega arith)
+  changed-low i d hi = pair-others parting rows 3 l r rows′ h i d (omega arith) (omega arith)
 
   pub changed-far : (d : ℕ) → d ≢ l → d ≢ r → beta rows′ 3 d ≡ beta rows 3 d
-  changed-far d a b = pair-others un rows 3 l r rows′ h 3 d (omega arith) (omega arith)
+  changed-far d a b = pair-others parting rows 3 l r rows′ h 3 d (omega arith) (omega arith)
 
-  pub changed-l : beta rows′ 3 l ≡ cond un 0 r
-  changed-l = pair-l un rows 3 l r rows′ h (omega arith) (omega arith) (omega (arith, w .sized .whole))
+  pub changed-l : beta rows′ 3 l ≡ cond parting 0 r
+  changed-l = pair-l parting rows 3 l r rows′ h (omega arith) (omega arith) (omega (arith, w .sized .whole))
 
-  pub changed-r : beta rows′ 3 r ≡ cond un 0 l
-  changed-r = pair-r un rows 3 l r rows′ h (omega arith) (omega arith) (omega (arith, w .sized .whole))
+  pub changed-r : beta rows′ 3 r ≡ cond parting 0 l
+  changed-r = pair-r parting rows 3 l r rows′ h (omega arith) (omega arith) (omega (arith, w .sized .whole))
 
-  pub changed-back : set (set rows′ (place 3 l) (cond un r 0)) (place 3 r) (cond un l 0) ≡ rows
-  changed-back = pair-back un rows 3 l r rows′ h (omega arith) (omega arith)
+  pub changed-back : set (set rows′ (place 3 l) (cond parting r 0)) (place 3 r) (cond parting l 0) ≡ rows
+  changed-back = pair-back parting rows 3 l r rows′ h (omega arith) (omega arith)
 
   pub changed-formed : WellFormed rows′
-  changed-formed = pair-formed un rows 3 l r rows′ h (omega arith) (omega arith) w hl hr nl
+  changed-formed = pair-formed parting rows 3 l r rows′ h (omega arith) (omega arith) w hl hr nl
 
-  pub changed-left : left un rows′ < left un rows
-  changed-left = go un (h .was-l) (h .put)
+  pub changed-fewer : changeable parting rows′ < changeable parting rows
+  changed-fewer = go parting (h .was-l) (h .put)
     where
-      go : (u : Bool) → beta rows 3 l ≡ cond u r 0 → rows′ ≡ set (set rows (place 3 l) (cond u 0 r)) (place 3 r) (cond u 0 l) → left u rows′ < left u rows
+      go : (u : Bool) → beta rows 3 l ≡ cond u r 0 → rows′ ≡ set (set rows (place 3 l) (cond u 0 r)) (place 3 r) (cond u 0 l) →
+          changeable u rows′ < changeable u rows
       go false z p =
           let s = w .sized .whole in
           let a = zeros-fill rows (place 3 l) r (omega arith) z (h .real) in

@@ -34,19 +34,19 @@ pub inside-now : (rows rows′ : List ℕ) (a b : ℕ) → length rows′ ≡ le
 inside-now rows rows′ a b e s ha hb = (formed-inside rows′ s, omega arith, omega arith)
 
 -- a leg that starts at images of ld and rd
-pub leg-start : (un : Bool) (ld rd i j stop f : ℕ) (rows : List ℕ) (l r : ℕ) (w : Leg) (rows′ : List ℕ) → l ≡ beta rows i ld → r ≡ beta rows j rd →
-    legOut w rows′ ≡ walk (stepOf un ld rd) f rows i j stop l r 0 →
-    legOut w rows′ ≡ walk (stepOf un ld rd) f rows i j stop (beta rows i ld) (beta rows j rd) 0
-leg-start un ld rd i j stop f rows l r w rows′ el er e = e ∙ rw (el, er)
+pub leg-start : (parting : Bool) (ld rd i j stop f : ℕ) (rows : List ℕ) (l r : ℕ) (w : Leg) (rows′ : List ℕ) → l ≡ beta rows i ld → r ≡ beta rows j rd →
+    legOut w rows′ ≡ walk (stepOf parting ld rd) f rows i j stop l r 0 →
+    legOut w rows′ ≡ walk (stepOf parting ld rd) f rows i j stop (beta rows i ld) (beta rows j rd) 0
+leg-start parting ld rd i j stop f rows l r w rows′ el er e = e ∙ rw (el, er)
 
 -- what a leg that was walked leaves
-module _ (un : Bool) (ld rd i j stop f : ℕ) (rows : List ℕ) (l r : ℕ) (w : Leg) (rows′ : List ℕ)
-    (e : legOut w rows′ ≡ walk (stepOf un ld rd) f rows i j stop l r 0) (hi : i < 3) (hj : j < 3) (s : WellFormed rows) (hl : l < darts rows)
+module _ (parting : Bool) (ld rd i j stop f : ℕ) (rows : List ℕ) (l r : ℕ) (w : Leg) (rows′ : List ℕ)
+    (e : legOut w rows′ ≡ walk (stepOf parting ld rd) f rows i j stop l r 0) (hi : i < 3) (hj : j < 3) (s : WellFormed rows) (hl : l < darts rows)
     (hr : r < darts rows) where
-  pub leg-walked : Walked un rows i j l r 0 (legOut w rows′)
-  leg-walked = rw e (walked un ld rd i j stop hi hj f rows l r 0 s hl hr)
+  pub leg-walked : Walked parting rows i j l r 0 (legOut w rows′)
+  leg-walked = rw e (walked parting ld rd i j stop hi hj f rows l r 0 s hl hr)
 
-  pub leg-undone : undone un (w .steps) rows′ i j l r ≡ rows
+  pub leg-undone : undone parting (w .steps) rows′ i j l r ≡ rows
   leg-undone =
       let v = leg-walked in
       let q : w .steps ≡ v .more = let p = v .steps in omega arith in
@@ -61,34 +61,34 @@ module _ (d : ℕ) (entry : List ℕ) (w : Leg) (rows′ : List ℕ) (o : LegOut
   last-done x p t = simp (← e, t, p)
 
 -- the whole, after a step at ld and rd that left a and rows₁
-module _ (un : Bool) (d : ℕ) (entry : List ℕ) (ld rd : ℕ) (a : Answer) (rows₁ : List ℕ) (o : Out) (e : out a rows₁ ≡ o) where
-  pub on-refused : isDone a ≡ false → rows₁ ≡ entry → out a rows₁ ≡ afterCore un d entry ld rd o
+module _ (parting : Bool) (d : ℕ) (entry : List ℕ) (ld rd : ℕ) (a : Answer) (rows₁ : List ℕ) (o : Out) (e : out a rows₁ ≡ o) where
+  pub on-refused : isDone a ≡ false → rows₁ ≡ entry → out a rows₁ ≡ afterCore parting d entry ld rd o
   on-refused t q = rw (← e) (simp (t, q))
 
-  module _ (t : isDone a ≡ true) (w : Leg) (rows₂ : List ℕ) (p : legOut w rows₂ ≡ legOn un rows₁ ld rd) where
-    pub on-leg-refused : (rows₃ : List ℕ) → isDone (w .answer) ≡ false → rows₃ ≡ entry → out (w .answer) rows₃ ≡ afterCore un d entry ld rd o
+  module _ (t : isDone a ≡ true) (w : Leg) (rows₂ : List ℕ) (p : legOut w rows₂ ≡ legOn parting rows₁ ld rd) where
+    pub on-leg-refused : (rows₃ : List ℕ) → isDone (w .answer) ≡ false → rows₃ ≡ entry → out (w .answer) rows₃ ≡ afterCore parting d entry ld rd o
     on-leg-refused rows₃ b q = rw (← e) (simp (t, ← p, b, q))
 
-    pub on-closed : (x : ℕ) → x ≡ d → isDone (w .answer) ≡ true → w .l ≢ 0 → out (Done x 0) rows₂ ≡ afterCore un d entry ld rd o
+    pub on-closed : (x : ℕ) → x ≡ d → isDone (w .answer) ≡ true → w .l ≢ 0 → out (Done x 0) rows₂ ≡ afterCore parting d entry ld rd o
     on-closed x q b n = rw (← e) (simp (t, ← p, b, ne-eqb (w .l) 0 n, q))
 
     pub on-uneven : (rows₃ : List ℕ) → isDone (w .answer) ≡ true → w .l ≡ 0 → w .r ≢ 0 → rows₃ ≡ entry →
-        out (Refused (AsymmetricalFaces ld rd)) rows₃ ≡ afterCore un d entry ld rd o
+        out (Refused (AsymmetricalFaces ld rd)) rows₃ ≡ afterCore parting d entry ld rd o
     on-uneven rows₃ b z n q = rw (← e) (simp (t, ← p, b, eq-eqb (w .l) 0 z, ne-eqb (w .r) 0 n, q))
 
-    pub on-back : isDone (w .answer) ≡ true → w .l ≡ 0 → w .r ≡ 0 → lastLeg d entry (legBack un rows₂ ld rd) ≡ afterCore un d entry ld rd o
+    pub on-back : isDone (w .answer) ≡ true → w .l ≡ 0 → w .r ≡ 0 → lastLeg d entry (legBack parting rows₂ ld rd) ≡ afterCore parting d entry ld rd o
     on-back b z n = rw (← e) (simp (t, ← p, b, eq-eqb (w .l) 0 z, eq-eqb (w .r) 0 n))
 
 -- all pairs of the first leg set back, ld and rd among them
-pub on-undone : (un : Bool) (entry : List ℕ) (ld rd : ℕ) (rows₁ : List ℕ) (w : Leg) (rows₂ : List ℕ) → WellFormed entry → ld < darts entry →
+pub on-undone : (parting : Bool) (entry : List ℕ) (ld rd : ℕ) (rows₁ : List ℕ) (w : Leg) (rows₂ : List ℕ) → WellFormed entry → ld < darts entry →
     rd < darts entry → ld ≢ 0 →
-    Changed un entry ld rd rows₁ → legOut w rows₂ ≡ legOn un rows₁ ld rd → undone un (w .steps + 1) rows₂ 1 0 ld rd ≡ entry
-on-undone un entry ld rd rows₁ w rows₂ s hl hr nl h p =
-    let s₁ = changed-formed un entry ld rd rows₁ s h hl hr nl in
-    let v = leg-walked un ld rd 1 0 ld (suc (length rows₁)) rows₁ (beta rows₁ 1 ld) (beta rows₁ 0 rd) w rows₂ p (omega arith) (omega arith) s₁
+    Changed parting entry ld rd rows₁ → legOut w rows₂ ≡ legOn parting rows₁ ld rd → undone parting (w .steps + 1) rows₂ 1 0 ld rd ≡ entry
+on-undone parting entry ld rd rows₁ w rows₂ s hl hr nl h p =
+    let s₁ = changed-formed parting entry ld rd rows₁ s h hl hr nl in
+    let v = leg-walked parting ld rd 1 0 ld (suc (length rows₁)) rows₁ (beta rows₁ 1 ld) (beta rows₁ 0 rd) w rows₂ p (omega arith) (omega arith) s₁
     (s₁ .below 1 ld) (s₁ .below 0 rd) in
     let q : suc (v .more) ≡ w .steps + 1 = let e = v .steps in omega arith in
-    rw q at (again-on un entry ld rd rows₁ s h hl hr nl 1 0 0 (omega arith) (omega arith) (legOut w rows₂) v)
+    rw q at (again-on parting entry ld rd rows₁ s h hl hr nl 1 0 0 (omega arith) (omega arith) (legOut w rows₂) v)
 
 -- the calls
 

@@ -22,8 +22,8 @@ use Rattle.map_betas.specs.Answers.{Out, out, isDone, pass}
 use Rattle.link_walk.specs.Walk.{LegOut, legOut, legAt, walk, stepOf}
 use Rattle.link_walk.specs.Undo.{undone, Inside}
 use Rattle.link_walk.proofs.Stores.{inside-set, beta-set, clear-comm}
-use Rattle.link_walk.proofs.StepLaws.{Changed, step-done, step-kept, left}
-use Rattle.link_walk.proofs.StepLaws.{changed-length, changed-low, changed-l, changed-r, changed-far, changed-back, changed-formed, changed-left}
+use Rattle.link_walk.proofs.StepLaws.{Changed, step-done, step-kept, changeable}
+use Rattle.link_walk.proofs.StepLaws.{changed-length, changed-low, changed-l, changed-r, changed-far, changed-back, changed-formed, changed-fewer}
 
 -- the same images by beta 0, 1 and 2
 abbrev pub Alike : List ℕ → List ℕ → Type 0
@@ -35,7 +35,7 @@ Safe false rows d v = v ≡ 0
 Safe true rows d v = beta rows 3 d ≡ 0
 
 -- what a walk leaves: w is where it ends, from l and r with k steps taken
-pub record Walked (un : Bool) (rows : List ℕ) (i j l r k : ℕ) (w : LegOut) : Type 0 where
+pub record Walked (parting : Bool) (rows : List ℕ) (i j l r k : ℕ) (w : LegOut) : Type 0 where
   pub formed : WellFormed (w .rows)
   pub long : length (w .rows) ≡ length rows
   pub on-left : w .leg .l < darts rows
@@ -43,14 +43,14 @@ pub record Walked (un : Bool) (rows : List ℕ) (i j l r k : ℕ) (w : LegOut) :
   pub alike : Alike (w .rows) rows
   pub more : ℕ
   pub steps : w .leg .steps ≡ k + more
-  pub fell : more + left un (w .rows) ≤ left un rows
-  pub moves : (xs : List ℕ) (d v : ℕ) → Alike xs rows → Safe un rows d v →
-      undone un more (set xs (place 3 d) v) i j l r ≡ set (undone un more xs i j l r) (place 3 d) v
-  pub again : undone un more (w .rows) i j l r ≡ rows
+  pub fell : more + changeable parting (w .rows) ≤ changeable parting rows
+  pub moves : (xs : List ℕ) (d v : ℕ) → Alike xs rows → Safe parting rows d v →
+      undone parting more (set xs (place 3 d) v) i j l r ≡ set (undone parting more xs i j l r) (place 3 d) v
+  pub again : undone parting more (w .rows) i j l r ≡ rows
 
 -- where it ends at once
-module _ (un : Bool) (rows : List ℕ) (i j l r k : ℕ) where
-  here : (a : Answer) → WellFormed rows → l < darts rows → r < darts rows → Walked un rows i j l r k (legOut (legAt a l r k) rows)
+module _ (parting : Bool) (rows : List ℕ) (i j l r k : ℕ) where
+  here : (a : Answer) → WellFormed rows → l < darts rows → r < darts rows → Walked parting rows i j l r k (legOut (legAt a l r k) rows)
   unfolding undone
   here a s hl hr =
       record {
@@ -67,42 +67,42 @@ module _ (un : Bool) (rows : List ℕ) (i j l r k : ℕ) where
       }
 
 -- a pair is changed
-module _ (un : Bool) (rows : List ℕ) (l r : ℕ) (rows′ : List ℕ) (s : WellFormed rows) (h : Changed un rows l r rows′) (hl : l < darts rows)
+module _ (parting : Bool) (rows : List ℕ) (l r : ℕ) (rows′ : List ℕ) (s : WellFormed rows) (h : Changed parting rows l r rows′) (hl : l < darts rows)
     (hr : r < darts rows) (nl : l ≢ 0) where
-  safe-l : Safe un rows′ l (cond un r 0)
-  safe-l = go un (changed-l un rows l r rows′ s h hl hr nl)
+  safe-l : Safe parting rows′ l (cond parting r 0)
+  safe-l = go parting (changed-l parting rows l r rows′ s h hl hr nl)
     where
       go : (u : Bool) → beta rows′ 3 l ≡ cond u 0 r → Safe u rows′ l (cond u r 0)
       go true e = e
       go false e = refl
 
-  safe-r : Safe un rows′ r (cond un l 0)
-  safe-r = go un (changed-r un rows l r rows′ s h hl hr nl)
+  safe-r : Safe parting rows′ r (cond parting l 0)
+  safe-r = go parting (changed-r parting rows l r rows′ s h hl hr nl)
     where
       go : (u : Bool) → beta rows′ 3 r ≡ cond u 0 l → Safe u rows′ r (cond u l 0)
       go true e = e
       go false e = refl
 
   -- a safe store stays safe, and commutes with what sets the pair back
-  away : (d : ℕ) → un ≡ true → beta rows 3 d ≡ 0 → (d ≢ l) × (d ≢ r)
+  away : (d : ℕ) → parting ≡ true → beta rows 3 d ≡ 0 → (d ≢ l) × (d ≢ r)
   away d u z = (
     λ e. h .real (sym (rw u at (h .was-l)) ∙ ap (λ (x : ℕ). beta rows 3 x) (sym e) ∙ z),
     λ e. nl (sym (rw u at (h .was-r)) ∙ ap (λ (x : ℕ). beta rows 3 x) (sym e) ∙ z),
   )
 
-  safe-on : (d v : ℕ) → Safe un rows d v → Safe un rows′ d v
-  safe-on d v = go un refl
+  safe-on : (d v : ℕ) → Safe parting rows d v → Safe parting rows′ d v
+  safe-on d v = go parting refl
     where
-      go : (u : Bool) → un ≡ u → Safe u rows d v → Safe u rows′ d v
-      go true e z = let a = away d e z in changed-far un rows l r rows′ s h hl hr nl d (a .0) (a .1) ∙ z
+      go : (u : Bool) → parting ≡ u → Safe u rows d v → Safe u rows′ d v
+      go true e z = let a = away d e z in changed-far parting rows l r rows′ s h hl hr nl d (a .0) (a .1) ∙ z
       go false e z = z
 
-  safe-comm : (xs : List ℕ) (d v : ℕ) → Safe un rows d v →
-      set (set (set xs (place 3 d) v) (place 3 l) (cond un r 0)) (place 3 r) (cond un l 0)
-      ≡ set (set (set xs (place 3 l) (cond un r 0)) (place 3 r) (cond un l 0)) (place 3 d) v
-  safe-comm xs d v = go un refl
+  safe-comm : (xs : List ℕ) (d v : ℕ) → Safe parting rows d v →
+      set (set (set xs (place 3 d) v) (place 3 l) (cond parting r 0)) (place 3 r) (cond parting l 0)
+      ≡ set (set (set xs (place 3 l) (cond parting r 0)) (place 3 r) (cond parting l 0)) (place 3 d) v
+  safe-comm xs d v = go parting refl
     where
-      go : (u : Bool) → un ≡ u → Safe u rows d v →
+      go : (u : Bool) → parting ≡ u → Safe u rows d v →
           set (set (set xs (place 3 d) v) (place 3 l) (cond u r 0)) (place 3 r) (cond u l 0)
           ≡ set (set (set xs (place 3 l) (cond u r 0)) (place 3 r) (cond u l 0)) (place 3 d) v
       go true e z =
@@ -116,112 +116,118 @@ module _ (un : Bool) (rows : List ℕ) (l r : ℕ) (rows′ : List ℕ) (s : Wel
           (ap (λ (x : List ℕ). set x (place 3 r) 0) (clear-comm xs (place 3 d) (place 3 l))
           ∙ clear-comm (set xs (place 3 l) 0) (place 3 d) (place 3 r))
 
-  module _ (i j k : ℕ) (hi : i < 3) (hj : j < 3) (w : LegOut) (v : Walked un rows′ i j (beta rows′ i l) (beta rows′ j r) k w) where
+  module _ (i j k : ℕ) (hi : i < 3) (hj : j < 3) (w : LegOut) (v : Walked parting rows′ i j (beta rows′ i l) (beta rows′ j r) k w) where
     low : Alike rows′ rows
-    low = changed-low un rows l r rows′ s h hl hr nl
+    low = changed-low parting rows l r rows′ s h hl hr nl
 
-    moves-on : (xs : List ℕ) (d x : ℕ) → Alike xs rows → Safe un rows d x →
-        undone un (suc (v .more)) (set xs (place 3 d) x) i j l r ≡ set (undone un (suc (v .more)) xs i j l r) (place 3 d) x
+    moves-on : (xs : List ℕ) (d x : ℕ) → Alike xs rows → Safe parting rows d x →
+        undone parting (suc (v .more)) (set xs (place 3 d) x) i j l r ≡ set (undone parting (suc (v .more)) xs i j l r) (place 3 d) x
     unfolding undone
     moves-on xs d x e f =
         let at-l : beta (set xs (place 3 d) x) i l ≡ beta rows′ i l = beta-set xs i l d x hi ∙ e i l hi ∙ sym (low i l hi) in
         let at-r : beta (set xs (place 3 d) x) j r ≡ beta rows′ j r = beta-set xs j r d x hj ∙ e j r hj ∙ sym (low j r hj) in
         let to-l : beta xs i l ≡ beta rows′ i l = e i l hi ∙ sym (low i l hi) in
         let to-r : beta xs j r ≡ beta rows′ j r = e j r hj ∙ sym (low j r hj) in
-        let ys : List ℕ = set (set xs (place 3 l) (cond un r 0)) (place 3 r) (cond un l 0) in
+        let ys : List ℕ = set (set xs (place 3 l) (cond parting r 0)) (place 3 r) (cond parting l 0) in
         rw (at-l, at-r, to-l, to-r, safe-comm xs d x f)
         (v .moves ys d x
-        (λ b c hb. beta-set (set xs (place 3 l) (cond un r 0)) b c r (cond un l 0) hb ∙ beta-set xs b c l (cond un r 0) hb ∙ e b c hb ∙ sym (low b c hb))
+        (λ b c hb. beta-set (set xs (place 3 l) (cond parting r 0)) b c r (cond parting l 0) hb ∙ beta-set xs b c l (cond parting r 0) hb
+        ∙ e b c hb ∙ sym (low b c hb))
         (safe-on d x f))
 
-    pub again-on : undone un (suc (v .more)) (w .rows) i j l r ≡ rows
+    pub again-on : undone parting (suc (v .more)) (w .rows) i j l r ≡ rows
     unfolding undone
     again-on =
         rw (v .alike i l hi, v .alike j r hj)
-        (v .moves (set (w .rows) (place 3 l) (cond un r 0)) r (cond un l 0) (λ b c hb. beta-set (w .rows) b c l (cond un r 0) hb ∙ v .alike b c hb) safe-r
-        ∙ ap (λ (x : List ℕ). set x (place 3 r) (cond un l 0)) (v .moves (w .rows) l (cond un r 0) (v .alike) safe-l)
-        ∙ ap (λ (x : List ℕ). set (set x (place 3 l) (cond un r 0)) (place 3 r) (cond un l 0)) (v .again)
-        ∙ changed-back un rows l r rows′ s h hl hr nl)
+        (v .moves (set (w .rows) (place 3 l) (cond parting r 0)) r (cond parting l 0)
+        (λ b c hb. beta-set (w .rows) b c l (cond parting r 0) hb ∙ v .alike b c hb) safe-r
+        ∙ ap (λ (x : List ℕ). set x (place 3 r) (cond parting l 0)) (v .moves (w .rows) l (cond parting r 0) (v .alike) safe-l)
+        ∙ ap (λ (x : List ℕ). set (set x (place 3 l) (cond parting r 0)) (place 3 r) (cond parting l 0)) (v .again)
+        ∙ changed-back parting rows l r rows′ s h hl hr nl)
 
-  pub onward : (i j k : ℕ) → i < 3 → j < 3 → (w : LegOut) → Walked un rows′ i j (beta rows′ i l) (beta rows′ j r) (suc k) w → Walked un rows i j l r k w
+  pub onward : (i j k : ℕ) → i < 3 → j < 3 → (w : LegOut) → Walked parting rows′ i j (beta rows′ i l) (beta rows′ j r) (suc k) w →
+      Walked parting rows i j l r k w
   onward i j k hi hj w v =
-      let q = changed-length un rows l r rows′ s h hl hr nl in
+      let q = changed-length parting rows l r rows′ s h hl hr nl in
       record {
         formed = v .formed;
         long = v .long ∙ q;
         on-left = let a = v .on-left in omega arith;
         on-right = let a = v .on-right in omega arith;
-        alike = λ b d hb. v .alike b d hb ∙ changed-low un rows l r rows′ s h hl hr nl b d hb;
+        alike = λ b d hb. v .alike b d hb ∙ changed-low parting rows l r rows′ s h hl hr nl b d hb;
         more = suc (v .more);
         steps = let e = v .steps in omega arith;
-        fell = let e = v .fell in let f = changed-left un rows l r rows′ s h hl hr nl in omega arith;
+        fell = let e = v .fell in let f = changed-fewer parting rows l r rows′ s h hl hr nl in omega arith;
         moves = moves-on i j (suc k) hi hj w v;
         again = again-on i j (suc k) hi hj w v;
       }
 
 -- a walk of any length
-module _ (un : Bool) (ld rd i j stop : ℕ) (hi : i < 3) (hj : j < 3) where
+module _ (parting : Bool) (ld rd i j stop : ℕ) (hi : i < 3) (hj : j < 3) where
   abbrev Walks : ℕ → Type 0
   Walks f =
-      (rows : List ℕ) (l r k : ℕ) → WellFormed rows → l < darts rows → r < darts rows → Walked un rows i j l r k (walk (stepOf un ld rd) f rows i j stop l r k)
+      (rows : List ℕ) (l r k : ℕ) → WellFormed rows → l < darts rows → r < darts rows →
+      Walked parting rows i j l r k (walk (stepOf parting ld rd) f rows i j stop l r k)
 
   -- after a step that left o
   after : (f : ℕ) → Walks f → (rows : List ℕ) (l r k : ℕ) → WellFormed rows → l < darts rows → r < darts rows → l ≢ 0 →
-      (o : Out) → o ≡ stepOf un ld rd rows l r → (b : Bool) → isDone (o .answer) ≡ b →
-      Walked un rows i j l r k
-      (cond b (walk (stepOf un ld rd) f (o .rows) i j stop (beta (o .rows) i l) (beta (o .rows) j r) (suc k)) (legOut (legAt (o .answer) l r k) (o .rows)))
+      (o : Out) → o ≡ stepOf parting ld rd rows l r → (b : Bool) → isDone (o .answer) ≡ b →
+      Walked parting rows i j l r k
+      (cond b (walk (stepOf parting ld rd) f (o .rows) i j stop (beta (o .rows) i l) (beta (o .rows) j r) (suc k)) (legOut (legAt (o .answer) l r k) (o .rows)))
   after f next rows l r k s hl hr nl o e true t =
-      let h = step-done rows (o .answer) (o .rows) ld rd l r un s nl e t in
-      let s′ = changed-formed un rows l r (o .rows) s h hl hr nl in
-      onward un rows l r (o .rows) s h hl hr nl i j k hi hj _
+      let h = step-done rows (o .answer) (o .rows) ld rd l r parting s nl e t in
+      let s′ = changed-formed parting rows l r (o .rows) s h hl hr nl in
+      onward parting rows l r (o .rows) s h hl hr nl i j k hi hj _
       (next (o .rows) (beta (o .rows) i l) (beta (o .rows) j r) (suc k) s′ (s′ .below i l) (s′ .below j r))
-  after f next rows l r k s hl hr nl o e false t = rw (step-kept rows (o .answer) (o .rows) ld rd l r un e t) (here un rows i j l r k (o .answer) s hl hr)
+  after f next rows l r k s hl hr nl o e false t =
+      rw (step-kept rows (o .answer) (o .rows) ld rd l r parting e t) (here parting rows i j l r k (o .answer) s hl hr)
 
   walks-on : (f : ℕ) → Walks f → Walks (suc f)
   unfolding walk
   walks-on f next rows l r k s hl hr =
       by-cases (ℕ-discrete l 0)
-      (λ (e : l ≡ 0). simp (eq-eqb l 0 e) (here un rows i j l r k pass s hl hr))
+      (λ (e : l ≡ 0). simp (eq-eqb l 0 e) (here parting rows i j l r k pass s hl hr))
       (λ (nl : l ≢ 0). by-cases (ℕ-discrete l stop)
-      (λ (e : l ≡ stop). simp (eq-eqb l stop e, or-true) (here un rows i j l r k pass s hl hr))
+      (λ (e : l ≡ stop). simp (eq-eqb l stop e, or-true) (here parting rows i j l r k pass s hl hr))
       (λ (ns : l ≢ stop). simp (ne-eqb l 0 nl, ne-eqb l stop ns)
-      (after f next rows l r k s hl hr nl (stepOf un ld rd rows l r) refl (isDone (stepOf un ld rd rows l r .answer)) refl)))
+      (after f next rows l r k s hl hr nl (stepOf parting ld rd rows l r) refl (isDone (stepOf parting ld rd rows l r .answer)) refl)))
 
   walks-not : Walks zero
   unfolding walk
-  walks-not rows l r k s hl hr = here un rows i j l r k pass s hl hr
+  walks-not rows l r k s hl hr = here parting rows i j l r k pass s hl hr
 
   pub walked : (f : ℕ) → Walks f
   walked zero = walks-not
   walked (suc f) = walks-on f (walked f)
 
 -- a turn of the loop that walks, with the values as the code has them
-pub turn : (un : Bool) (ld rd : ℕ) (rows : List ℕ) (l r : ℕ) (a : Answer) (rows′ : List ℕ) → WellFormed rows → l < darts rows → r < darts rows → l ≢ 0 →
-    out a rows′ ≡ stepOf un ld rd rows l r → isDone a ≡ true → WellFormed rows′ × (length rows′ ≡ length rows) × (left un rows′ < left un rows)
-turn un ld rd rows l r a rows′ s hl hr nl e t =
-    let h = step-done rows a rows′ ld rd l r un s nl e t in
-    (changed-formed un rows l r rows′ s h hl hr nl, changed-length un rows l r rows′ s h hl hr nl, changed-left un rows l r rows′ s h hl hr nl)
+pub turn : (parting : Bool) (ld rd : ℕ) (rows : List ℕ) (l r : ℕ) (a : Answer) (rows′ : List ℕ) → WellFormed rows → l < darts rows → r < darts rows → l ≢ 0 →
+    out a rows′ ≡ stepOf parting ld rd rows l r → isDone a ≡ true → WellFormed rows′ × (length rows′ ≡ length rows)
+    × (changeable parting rows′ < changeable parting rows)
+turn parting ld rd rows l r a rows′ s hl hr nl e t =
+    let h = step-done rows a rows′ ld rd l r parting s nl e t in
+    (changed-formed parting rows l r rows′ s h hl hr nl, changed-length parting rows l r rows′ s h hl hr nl, changed-fewer parting rows l r rows′ s h hl hr nl)
 
 -- a turn of the loop that sets back
-module _ (un : Bool) (rows : List ℕ) (l r v z : ℕ) (rows₁ rows₂ : List ℕ) (ev : v ≡ cond un r 0) (ez : z ≡ cond un l 0)
+module _ (parting : Bool) (rows : List ℕ) (l r v z : ℕ) (rows₁ rows₂ : List ℕ) (ev : v ≡ cond parting r 0) (ez : z ≡ cond parting l 0)
     (e₁ : rows₁ ≡ set rows (place 3 l) v) (e₂ : rows₂ ≡ set rows₁ (place 3 r) z) where
   pub back-inside : (n : ℕ) → Inside n rows → l < n → r < n → Inside n rows₂
   back-inside n s hl hr =
-      rw (e₂, e₁, ev, ez) (inside-set n (set rows (place 3 l) (cond un r 0)) (place 3 r) (cond un l 0)
-      (inside-set n rows (place 3 l) (cond un r 0) s (small un r hr)) (small un l hl))
+      rw (e₂, e₁, ev, ez) (inside-set n (set rows (place 3 l) (cond parting r 0)) (place 3 r) (cond parting l 0)
+      (inside-set n rows (place 3 l) (cond parting r 0) s (small parting r hr)) (small parting l hl))
     where
       small : (b : Bool) (d : ℕ) → d < n → cond b d 0 < n
       small true d hd = hd
       small false d hd = omega arith
 
   pub back-next : (left i j l′ r′ : ℕ) → 0 < left → l′ ≡ beta rows i l → r′ ≡ beta rows j r →
-      undone un (left - 1) rows₂ i j l′ r′ ≡ undone un left rows i j l r
+      undone parting (left - 1) rows₂ i j l′ r′ ≡ undone parting left rows i j l r
   unfolding undone
   back-next left i j l′ r′ h el er =
       let q : left ≡ suc (left - 1) = omega arith in
-      rw (e₂, e₁, ev, ez, el, er) (sym (ap (λ (m : ℕ). undone un m rows i j l r) q))
+      rw (e₂, e₁, ev, ez, el, er) (sym (ap (λ (m : ℕ). undone parting m rows i j l r) q))
 
-pub undone-none : (un : Bool) (left : ℕ) (rows : List ℕ) (i j l r : ℕ) → left ≤ 0 → undone un left rows i j l r ≡ rows
+pub undone-none : (parting : Bool) (left : ℕ) (rows : List ℕ) (i j l r : ℕ) → left ≤ 0 → undone parting left rows i j l r ≡ rows
 unfolding undone
-undone-none un zero rows i j l r h = refl
-undone-none un (suc m) rows i j l r h = absurd (omega arith)
+undone-none parting zero rows i j l r h = refl
+undone-none parting (suc m) rows i j l r h = absurd (omega arith)

@@ -1,5 +1,5 @@
 -- The 3-link and the 3-unlink of real darts of a map, as the walk goes. `entry` is the rows of the call, left as they were after a refusal;
--- d is the dart to answer; `un` tells the unlink from the link.
+-- d is the dart to answer; `parting` tells the unlink from the link.
 --   legOn, legBack           the two legs
 --   lastLeg, afterLeg, afterCore   what follows the second leg, the first leg, the core at ld and rd
 --   threeLinkOn entry ld rd  the 3-link of ld and rd
@@ -18,11 +18,11 @@ use Rattle.link_walk.specs.Walk.{stepOf, LegOut, walk}
 
 -- "Then l forward by beta 1, r by beta 0. Until l is ld or null"
 abbrev pub legOn : Bool → List ℕ → ℕ → ℕ → LegOut
-legOn un rows ld rd = walk (stepOf un ld rd) (suc (length rows)) rows 1 0 ld (beta rows 1 ld) (beta rows 0 rd) 0
+legOn parting rows ld rd = walk (stepOf parting ld rd) (suc (length rows)) rows 1 0 ld (beta rows 1 ld) (beta rows 0 rd) 0
 
 -- "then from ld by beta 0 and rd by beta 1 until l is null"
 abbrev pub legBack : Bool → List ℕ → ℕ → ℕ → LegOut
-legBack un rows ld rd = walk (stepOf un ld rd) (suc (length rows)) rows 0 1 0 (beta rows 0 ld) (beta rows 1 rd) 0
+legBack parting rows ld rd = walk (stepOf parting ld rd) (suc (length rows)) rows 0 1 0 (beta rows 0 ld) (beta rows 1 rd) 0
 
 -- "When l is null in this second leg r isn't looked at"
 abbrev pub lastLeg : ℕ → List ℕ → LegOut → Out
@@ -30,15 +30,15 @@ lastLeg d entry w = cond (isDone (w .leg .answer)) (out (Done d 0) (w .rows)) (o
 
 -- "If l is null: r not null gives 9; then .. this second leg .. nor is r [looked at] when a closed l is back at ld."
 abbrev pub afterLeg : Bool → ℕ → List ℕ → ℕ → ℕ → LegOut → Out
-afterLeg un d entry ld rd w =
+afterLeg parting d entry ld rd w =
     cond (isDone (w .leg .answer))
     (cond (eqb (w .leg .l) 0)
-    (cond (eqb (w .leg .r) 0) (lastLeg d entry (legBack un (w .rows) ld rd)) (out (Refused (AsymmetricalFaces ld rd)) entry))
+    (cond (eqb (w .leg .r) 0) (lastLeg d entry (legBack parting (w .rows) ld rd)) (out (Refused (AsymmetricalFaces ld rd)) entry))
     (out (Done d 0) (w .rows)))
     (out (w .leg .answer) entry)
 
 abbrev pub afterCore : Bool → ℕ → List ℕ → ℕ → ℕ → Out → Out
-afterCore un d entry ld rd o = cond (isDone (o .answer)) (afterLeg un d entry ld rd (legOn un (o .rows) ld rd)) (out (o .answer) entry)
+afterCore parting d entry ld rd o = cond (isDone (o .answer)) (afterLeg parting d entry ld rd (legOn parting (o .rows) ld rd)) (out (o .answer) entry)
 
 -- "3-link: core (3, ld, rd). Then .."
 unfoldable pub threeLinkOn : List ℕ → ℕ → ℕ → Out

@@ -1,5 +1,5 @@
 -- The walk of a 3-link and of a 3-unlink along two faces, over the rows as written so far.
---   stepOf un ld rd rows l r   a step at the pair l and r; `un` tells the unlink from the link
+--   stepOf parting ld rd rows l r   a step at the pair l and r; `parting` tells the unlink from the link
 --   LegOut, legOut, legAt      where a leg of the walk ends, and the rows then
 --   walk                       a leg: a step at each pair, until the left side ends or a step refuses
 use Prim.Native.Nat.{ℕ, zero, suc}

@@ -36,12 +36,12 @@ fn leg_at(answer: Answer, l: u32, r: u32, steps: usize) -> Leg
     }
 }
 
-// A step at l and r: of a 3-link, or of a 3-unlink where un holds.
-pub fn step(rows: &mut [u32], un: bool, ld: u32, rd: u32, l: u32, r: u32) -> Answer
+// A step at l and r: of a 3-link, or of a 3-unlink where parting holds.
+pub fn step(rows: &mut [u32], parting: bool, ld: u32, rd: u32, l: u32, r: u32) -> Answer
     requires { ⌜ WellFormed (now rows) × (l < darts (now rows)) × (r < darts (now rows)) ⌝ }
-    ensures { λ a. ⌜ out a (now (rows .exit)) ≡ stepOf un ld rd (now (rows .entry)) l r ⌝ }
+    ensures { λ a. ⌜ out a (now (rows .exit)) ≡ stepOf parting ld rd (now (rows .entry)) l r ⌝ }
 {
-    if un {
+    if parting {
         if l != beta_at(rows, 3, r) {
             return Answer::Refused(Refusal::AsymmetricalFaces(ld, rd));
         }
@@ -56,7 +56,7 @@ pub fn step(rows: &mut [u32], un: bool, ld: u32, rd: u32, l: u32, r: u32) -> Ans
 // From l0 and r0, a step at each pair, l going on by beta i and r by beta j, until l is null or at stop, or a step refuses.
 pub fn walk_leg(
     rows: &mut [u32],
-    un: bool,
+    parting: bool,
     i: u32,
     j: u32,
     stop: u32,
@@ -66,7 +66,7 @@ pub fn walk_leg(
     r0: u32,
 ) -> Leg
     requires { ⌜ WellFormed (now rows) × (i < 3) × (j < 3) × (l0 < darts (now rows)) × (r0 < darts (now rows)) ⌝ }
-    ensures { λ w. ⌜ legOut w (now (rows .exit)) ≡ walk (stepOf un ld rd) (suc (length (now (rows .entry)))) (now (rows .entry)) i j stop l0 r0 0 ⌝ }
+    ensures { λ w. ⌜ legOut w (now (rows .exit)) ≡ walk (stepOf parting ld rd) (suc (length (now (rows .entry)))) (now (rows .entry)) i j stop l0 r0 0 ⌝ }
 {
     let mut l = l0;
     let mut r = r0;
@@ -75,7 +75,7 @@ pub fn walk_leg(
         if l == stop {
             return leg_at(Answer::Done(0, 0), l, r, steps);
         }
-        let a = step(rows, un, ld, rd, l, r);
+        let a = step(rows, parting, ld, rd, l, r);
         if !is_done(a) {
             return leg_at(a, l, r, steps);
         }
@@ -86,17 +86,17 @@ pub fn walk_leg(
     leg_at(Answer::Done(0, 0), l, r, steps)
 }
 
-// d where un holds, else the null dart.
-pub fn pick(un: bool, d: u32) -> u32
-    ensures { λ r. ⌜ r ≡ cond un d 0 ⌝ }
+// The beta 3 image that a dart of a pair had before its step, where d is the pair's other dart: d where it parts them, else the null dart.
+pub fn former(parting: bool, d: u32) -> u32
+    ensures { λ r. ⌜ r ≡ cond parting d 0 ⌝ }
 {
-    if un { d } else { 0 }
+    if parting { d } else { 0 }
 }
 
 // Sets as many pairs as steps back to what they were before their step, from l0 and r0 on.
-pub fn undo_leg(rows: &mut [u32], un: bool, i: u32, j: u32, l0: u32, r0: u32, steps: usize)
+pub fn undo_leg(rows: &mut [u32], parting: bool, i: u32, j: u32, l0: u32, r0: u32, steps: usize)
     requires { ⌜ Inside (darts (now rows)) (now rows) × (i < 3) × (j < 3) × (l0 < darts (now rows)) × (r0 < darts (now rows)) ⌝ }
-    ensures { λ _. ⌜ now (rows .exit) ≡ undone un steps (now (rows .entry)) i j l0 r0 ⌝ }
+    ensures { λ _. ⌜ now (rows .exit) ≡ undone parting steps (now (rows .entry)) i j l0 r0 ⌝ }
 {
     let mut l = l0;
     let mut r = r0;
@@ -104,8 +104,8 @@ pub fn undo_leg(rows: &mut [u32], un: bool, i: u32, j: u32, l0: u32, r0: u32, st
     while 0 < left {
         let l1 = beta_at(rows, i, l);
         let r1 = beta_at(rows, j, r);
-        set_beta(rows, 3, l, pick(un, r));
-        set_beta(rows, 3, r, pick(un, l));
+        set_beta(rows, 3, l, former(parting, r));
+        set_beta(rows, 3, r, former(parting, l));
         l = l1;
         r = r1;
         left -= 1;

@@ -1,7 +1,7 @@
 -- Tests one after the other: the code returns the first refusal (`stops`) or goes on (`goes-on`); both passed where the whole did (`first-done`,
 -- `then-done`). Outcomes that are the same: one is not done and the other refused
--- (`not-both`), and they have the same rows (`rows-same`). Any call behind its tests: `behind-refused`, `behind-done`; what it leaves, from its answer and
--- its loans: `outcome-is`; as it crosses to C: `crosses`. Assumes nothing.
+-- (`not-both`), and they have the same rows (`rows-same`). Any call behind its tests: `behind-refused`, `behind-done`, `refused-leaves`; what it leaves,
+-- from its answer and its loans: `outcome-is`; as it crosses to C: `crosses`. Assumes nothing.
 use Prim.Native.Nat.{ℕ}
 use mathlib.Core.Path.{_≡_, refl, sym, ap, _∙_}
 use mathlib.Core.List.{List}
@@ -47,6 +47,12 @@ module _ {L : Type 0} (g h : Answer) (e : g ≡ h) (loans : L) (o : Outcome L) w
 
   pub behind-done : isDone g ≡ true → o ≡ behind h loans o
   behind-done t = simp (← e, t)
+
+-- a call that is never refused behind its tests leaves every loan where it is refused
+pub refused-leaves : {L : Type 0} (g : Answer) (loans : L) (o : Outcome L) → isDone (o .answer) ≡ true → isDone (behind g loans o .answer) ≡ false →
+    behind g loans o .loans ≡ loans
+refused-leaves {L} (Done d k) loans o t f = absurd (true≢false (sym t ∙ f))
+refused-leaves {L} (Refused w) loans o t f = refl
 
 pub outcome-is : {L : Type 0} {a b : Answer} {l m : L} → a ≡ b → l ≡ m → outcome a l ≡ outcome b m
 outcome-is e f = λ t. record { answer = e t; loans = f t }

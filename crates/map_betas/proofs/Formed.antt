@@ -121,6 +121,10 @@ size-done rows = go (badSize (length rows)) refl
 pub formed-done : (rows : List ℕ) → isDone (sizeTest rows) ≡ true → isDone (mapTest rows) ≡ true → WellFormed rows
 formed-done rows s t = let z = size-done rows s in formed rows z (test-clean rows z t)
 
+-- the map test passes on a map
+pub map-passes : (rows : List ℕ) → WellFormed rows → mapTest rows ≡ pass
+map-passes rows w = clean-test rows (w .sized) (formed-clean rows (w .sized) w)
+
 -- no breach is found exactly where the rows are well formed
 pub formed-iff : (rows : List ℕ) → (checkMap rows ≡ pass) ↔ WellFormed rows
 formed-iff rows = (there, back)
@@ -131,4 +135,4 @@ formed-iff rows = (there, back)
         formed-done rows (first-done (sizeTest rows) (mapTest rows) t) (then-done (sizeTest rows) (mapTest rows) t)
 
     back : WellFormed rows → checkMap rows ≡ pass
-    back w = simp (size-good rows (w .sized)) (clean-test rows (w .sized) (formed-clean rows (w .sized) w))
+    back w = simp (size-good rows (w .sized)) (map-passes rows w)

@@ -9,6 +9,7 @@
 --   Kept        what a core that is done does: a map stays a map, two images change, an unlink undoes a link
 --   Always      what a core leaves whether it is done or refuses
 --   GuardLaws   each case of the guard, and what holds once it has passed
+--   Guarded     the guard passes exactly where it should, and what the map test names
 --   ReadLaws    the tests of a read and each case of a free test
 pub mod BetaLaws
 pub mod AnswerLaws
@@ -20,4 +21,5 @@ pub mod CoreLaws
 pub mod Kept
 pub mod Always
 pub mod GuardLaws
+pub mod Guarded
 pub mod ReadLaws

@@ -1,6 +1,6 @@
--- A pair of stores: l and r linked by beta i, or unlinked where `un` holds.
---   paired un rows i l r            the rows after it: `put`, or `cut` where un holds
---   PairChanged un rows i l r rows′ l and r were free (or linked to each other, where un holds) and might be linked, and rows′ are the rows after it
+-- A pair of stores: l and r linked by beta i, or unlinked where `parting` holds.
+--   paired parting rows i l r            the rows after it: `put`, or `cut` where parting holds
+--   PairChanged parting rows i l r rows′ l and r were free (or linked to each other, where parting holds) and might be linked, and rows′ are the rows after it
 --   pair-l, pair-r, pair-others     which images stand there: exactly two have changed
 --   pair-length, pair-formed        they are as long, and well formed if the rows were
 --   pair-back                       stored the other way round, they are the rows again
@@ -21,14 +21,14 @@ use Rattle.map_betas.specs.Maps.{WellFormed}
 use Rattle.map_betas.proofs.BetaLaws.{opp-lt, opp-opp, opp-high}
 
 abbrev pub paired : Bool → List ℕ → ℕ → ℕ → ℕ → List ℕ
-paired un rows i l r = set (set rows (place i l) (cond un 0 r)) (place (opp i) r) (cond un 0 l)
+paired parting rows i l r = set (set rows (place i l) (cond parting 0 r)) (place (opp i) r) (cond parting 0 l)
 
-pub record PairChanged (un : Bool) (rows : List ℕ) (i l r : ℕ) (rows′ : List ℕ) : Type 0 where
-  pub was-l : beta rows i l ≡ cond un r 0
-  pub was-r : beta rows (opp i) r ≡ cond un l 0
+pub record PairChanged (parting : Bool) (rows : List ℕ) (i l r : ℕ) (rows′ : List ℕ) : Type 0 where
+  pub was-l : beta rows i l ≡ cond parting r 0
+  pub was-r : beta rows (opp i) r ≡ cond parting l 0
   pub apart : 2 ≤ i → l ≢ r
   pub real : r ≢ 0
-  pub put : rows′ ≡ paired un rows i l r
+  pub put : rows′ ≡ paired parting rows i l r
 
 -- a store of a dart keeps every image a dart
 pub below-set : (n : ℕ) (rows : List ℕ) (a v : ℕ) → ((k : ℕ) → getD rows k 0 < n) → v < n → (k : ℕ) → getD (set rows a v) k 0 < n
@@ -57,11 +57,11 @@ places-below rows w k =
     rw q at (w .below (k % 4) (k / 4))
 
 -- what a number that is stored, or stood there, can be
-stored : (un : Bool) (a b : ℕ) → cond un 0 a ≢ 0 → (cond un 0 a ≡ a) × (cond un 0 b ≡ b)
+stored : (parting : Bool) (a b : ℕ) → cond parting 0 a ≢ 0 → (cond parting 0 a ≡ a) × (cond parting 0 b ≡ b)
 stored true a b n = absurd (n refl)
 stored false a b n = (refl, refl)
 
-stood : (un : Bool) (a : ℕ) → cond un a 0 ≢ 0 → cond un a 0 ≡ a
+stood : (parting : Bool) (a : ℕ) → cond parting a 0 ≢ 0 → cond parting a 0 ≡ a
 stood true a n = refl
 stood false a n = absurd (n refl)
 
@@ -71,15 +71,15 @@ own-back zero h e = absurd (omega arith)
 own-back (suc zero) h e = absurd (omega arith)
 own-back (suc (suc i)) h e = omega arith
 
-module _ (un : Bool) (rows : List ℕ) (i l r : ℕ) (rows′ : List ℕ) (h : PairChanged un rows i l r rows′) where
+module _ (parting : Bool) (rows : List ℕ) (i l r : ℕ) (rows′ : List ℕ) (h : PairChanged parting rows i l r rows′) where
   pub pair-length : length rows′ ≡ length rows
   pair-length = ap length (h .put) ∙ simp length-set
 
   pub pair-others : (k d : ℕ) → place k d ≢ place i l → place k d ≢ place (opp i) r → beta rows′ k d ≡ beta rows k d
   pair-others k d a b =
       rw (h .put)
-      (getD-set-other (set rows (place i l) (cond un 0 r)) (place (opp i) r) (place k d) (cond un 0 l) 0 b
-      ∙ getD-set-other rows (place i l) (place k d) (cond un 0 r) 0 a)
+      (getD-set-other (set rows (place i l) (cond parting 0 r)) (place (opp i) r) (place k d) (cond parting 0 l) 0 b
+      ∙ getD-set-other rows (place i l) (place k d) (cond parting 0 r) 0 a)
 
   module _ (first : 1 ≤ i) (last : i < 4) where
     back-i : opp i < 4
@@ -90,21 +90,23 @@ module _ (un : Bool) (rows : List ℕ) (i l r : ℕ) (rows′ : List ℕ) (h : P
         let q : i ≡ opp i = omega (arith, back-i) in
         h .apart (own-back i first q) (omega (arith, q))
 
-    pub pair-back : set (set rows′ (place i l) (cond un r 0)) (place (opp i) r) (cond un l 0) ≡ rows
+    pub pair-back : set (set rows′ (place i l) (cond parting r 0)) (place (opp i) r) (cond parting l 0) ≡ rows
     pair-back =
         rw (h .put)
-        (set-back-two rows (place i l) (place (opp i) r) (cond un 0 r) (cond un 0 l) (cond un r 0) (cond un l 0) cells-apart (h .was-l) (h .was-r))
+        (set-back-two rows (place i l) (place (opp i) r) (cond parting 0 r) (cond parting 0 l) (cond parting r 0) (cond parting l 0) cells-apart
+        (h .was-l) (h .was-r))
 
-    pub pair-l : place i l < length rows → beta rows′ i l ≡ cond un 0 r
+    pub pair-l : place i l < length rows → beta rows′ i l ≡ cond parting 0 r
     pair-l inside =
         rw (h .put)
-        (getD-set-other (set rows (place i l) (cond un 0 r)) (place (opp i) r) (place i l) (cond un 0 l) 0 cells-apart
-        ∙ getD-set-same rows (place i l) (cond un 0 r) 0 inside)
+        (getD-set-other (set rows (place i l) (cond parting 0 r)) (place (opp i) r) (place i l) (cond parting 0 l) 0 cells-apart
+        ∙ getD-set-same rows (place i l) (cond parting 0 r) 0 inside)
 
-    pub pair-r : place (opp i) r < length rows → beta rows′ (opp i) r ≡ cond un 0 l
+    pub pair-r : place (opp i) r < length rows → beta rows′ (opp i) r ≡ cond parting 0 l
     pair-r inside =
         rw (h .put)
-        (getD-set-same (set rows (place i l) (cond un 0 r)) (place (opp i) r) (cond un 0 l) 0 (rw (length-set rows (place i l) (cond un 0 r)) inside))
+        (getD-set-same (set rows (place i l) (cond parting 0 r)) (place (opp i) r) (cond parting 0 l) 0
+        (rw (length-set rows (place i l) (cond parting 0 r)) inside))
 
     module _ (w : WellFormed rows) (hl : l < darts rows) (hr : r < darts rows) (nl : l ≢ 0) where
       inside-l : place i l < length rows
@@ -116,8 +118,8 @@ module _ (un : Bool) (rows : List ℕ) (i l r : ℕ) (rows′ : List ℕ) (h : P
       same-darts : darts rows′ ≡ darts rows
       same-darts = ap (λ (k : ℕ). k / 4) pair-length
 
-      some-below : (a : ℕ) → a < darts rows → cond un 0 a < darts rows
-      some-below a lt = go un
+      some-below : (a : ℕ) → a < darts rows → cond parting 0 a < darts rows
+      some-below a lt = go parting
         where
           go : (b : Bool) → cond b 0 a < darts rows
           go true = omega (arith, w .sized .some)
@@ -126,8 +128,8 @@ module _ (un : Bool) (rows : List ℕ) (i l r : ℕ) (rows′ : List ℕ) (h : P
       new-below : (k d : ℕ) → beta rows′ k d < darts rows
       new-below k d =
           rw (h .put)
-          (below-set (darts rows) (set rows (place i l) (cond un 0 r)) (place (opp i) r) (cond un 0 l)
-          (below-set (darts rows) rows (place i l) (cond un 0 r) (places-below rows w) (some-below r hr)) (some-below l hl) (place k d))
+          (below-set (darts rows) (set rows (place i l) (cond parting 0 r)) (place (opp i) r) (cond parting 0 l)
+          (below-set (darts rows) rows (place i l) (cond parting 0 r) (places-below rows w) (some-below r hr)) (some-below l hl) (place k d))
 
       new-null : (k : ℕ) → k < 4 → beta rows′ k 0 ≡ 0
       new-null k lt =
@@ -144,7 +146,7 @@ module _ (un : Bool) (rows : List ℕ) (i l r : ℕ) (rows′ : List ℕ) (h : P
           let z : beta rows k d ≡ l = omega (arith, q) in
           let back : beta rows i l ≡ d = ap (λ (x : ℕ). getD rows x 0) (sym e) ∙ w .back k d lt n in
           let real : d ≢ 0 = λ y. n (ap (λ (x : ℕ). beta rows k x) y ∙ w .null k lt) in
-          let c : d ≡ r = sym back ∙ h .was-l ∙ stood un r (λ y. real (sym back ∙ h .was-l ∙ y)) in
+          let c : d ≡ r = sym back ∙ h .was-l ∙ stood parting r (λ y. real (sym back ∙ h .was-l ∙ y)) in
           let o : k ≡ opp i = sym (opp-opp k) ∙ ap opp q in
           b (omega (arith, c, o))
 
@@ -154,7 +156,7 @@ module _ (un : Bool) (rows : List ℕ) (i l r : ℕ) (rows′ : List ℕ) (h : P
           let q : opp k ≡ opp i = omega (arith, back-i) in
           let back : beta rows (opp i) r ≡ d = ap (λ (x : ℕ). getD rows x 0) (sym e) ∙ w .back k d lt n in
           let real : d ≢ 0 = λ y. n (ap (λ (x : ℕ). beta rows k x) y ∙ w .null k lt) in
-          let c : d ≡ l = sym back ∙ h .was-r ∙ stood un l (λ y. real (sym back ∙ h .was-r ∙ y)) in
+          let c : d ≡ l = sym back ∙ h .was-r ∙ stood parting l (λ y. real (sym back ∙ h .was-r ∙ y)) in
           let o : k ≡ i = sym (opp-opp k) ∙ ap opp q ∙ opp-opp i in
           a (omega (arith, c, o))
 
@@ -165,15 +167,15 @@ module _ (un : Bool) (rows : List ℕ) (i l r : ℕ) (rows′ : List ℕ) (h : P
           (λ (e : place k d ≡ place i l).
           let ek : k ≡ i = omega arith in
           let ed : d ≡ l = omega (arith, ek) in
-          let x : beta rows′ k d ≡ cond un 0 r = ap (λ (c : ℕ). getD rows′ c 0) e ∙ pair-l inside-l in
-          let t = stored un r l (λ z. n (x ∙ z)) in
+          let x : beta rows′ k d ≡ cond parting 0 r = ap (λ (c : ℕ). getD rows′ c 0) e ∙ pair-l inside-l in
+          let t = stored parting r l (λ z. n (x ∙ z)) in
           rw (x ∙ t .0, ek) (pair-r inside-r ∙ t .1 ∙ sym ed))
           (λ (a : place k d ≢ place i l). by-cases (ℕ-discrete (place k d) (place (opp i) r))
           (λ (e : place k d ≡ place (opp i) r).
           let ek : k ≡ opp i = omega (arith, back-i) in
           let ed : d ≡ r = omega (arith, ek) in
-          let x : beta rows′ k d ≡ cond un 0 l = ap (λ (c : ℕ). getD rows′ c 0) e ∙ pair-r inside-r in
-          let t = stored un l r (λ z. n (x ∙ z)) in
+          let x : beta rows′ k d ≡ cond parting 0 l = ap (λ (c : ℕ). getD rows′ c 0) e ∙ pair-r inside-r in
+          let t = stored parting l r (λ z. n (x ∙ z)) in
           let o : opp k ≡ i = ap opp ek ∙ opp-opp i in
           rw (x ∙ t .0, o) (pair-l inside-l ∙ t .1 ∙ sym ed))
           (λ (b : place k d ≢ place (opp i) r).
@@ -187,15 +189,15 @@ module _ (un : Bool) (rows : List ℕ) (i l r : ℕ) (rows′ : List ℕ) (h : P
           (λ (e : place k d ≡ place i l).
           let ek : k ≡ i = omega arith in
           let ed : d ≡ l = omega (arith, ek) in
-          let x : beta rows′ k d ≡ cond un 0 r = ap (λ (c : ℕ). getD rows′ c 0) e ∙ pair-l inside-l in
-          h .apart (omega arith) (sym ed ∙ sym m ∙ x ∙ stored un r l (λ z. n (x ∙ z)) .0))
+          let x : beta rows′ k d ≡ cond parting 0 r = ap (λ (c : ℕ). getD rows′ c 0) e ∙ pair-l inside-l in
+          h .apart (omega arith) (sym ed ∙ sym m ∙ x ∙ stored parting r l (λ z. n (x ∙ z)) .0))
           (λ (a : place k d ≢ place i l). by-cases (ℕ-discrete (place k d) (place (opp i) r))
           (λ (e : place k d ≡ place (opp i) r).
           let ek : k ≡ opp i = omega (arith, back-i) in
           let ed : d ≡ r = omega (arith, ek) in
-          let x : beta rows′ k d ≡ cond un 0 l = ap (λ (c : ℕ). getD rows′ c 0) e ∙ pair-r inside-r in
+          let x : beta rows′ k d ≡ cond parting 0 l = ap (λ (c : ℕ). getD rows′ c 0) e ∙ pair-r inside-r in
           let i₂ : 2 ≤ i = omega (arith, ek, opp-opp i, sym (ap opp ek) ∙ opp-high k h₂) in
-          h .apart i₂ (sym (stored un l r (λ z. n (x ∙ z)) .0) ∙ sym x ∙ m ∙ ed))
+          h .apart i₂ (sym (stored parting l r (λ z. n (x ∙ z)) .0) ∙ sym x ∙ m ∙ ed))
           (λ (b : place k d ≢ place (opp i) r).
           let x = pair-others k d a b in
           w .moved k d h₂ lt (λ z. n (x ∙ z)) (sym x ∙ m)))

@@ -21,7 +21,7 @@ use Rattle.map_betas.specs.declared.error.Told.{Told}
 use Rattle.map_betas.specs.Answers.{tellOf}
 use Rattle.map_betas.specs.Betas.{darts}
 use Rattle.cell_steps.specs.Loans.{Listed}
-use Rattle.cell_steps.specs.Calls.{wiped, written}
+use Rattle.cell_steps.specs.Calls.{wiped, headed}
 use Rattle.cell_steps.proofs.ScratchLaws.{wiped-back}
 use Rattle.cell_steps.specs.declared.cells.Class.{Class}
 use Rattle.cell_steps.specs.declared.cells.Class.the-variants.{Vertex, Edge, Face, Volume}
@@ -196,8 +196,8 @@ wiped-four n l l₁ l₂ l₃ l₄ a b c d = d ∙ again l₂ l₃ c ∙ again l
     again x y e = ap (λ (t : List ℕ). replicate n 0 ++ t) (wiped-back n x y e)
 
 module _ (rows flags o o₁ o₂ o₃ o₄ : List ℕ) where
-  pub lists-over : o₁ ≡ written (listOf Vertex rows flags) o → o₂ ≡ written (listOf Edge rows flags) o₁ → o₃ ≡ written (listOf Face rows flags) o₂ →
-      o₄ ≡ written (listOf Volume rows flags) o₃ → o₄ ≡ listsOver rows flags o
+  pub lists-over : o₁ ≡ headed (listOf Vertex rows flags) o → o₂ ≡ headed (listOf Edge rows flags) o₁ → o₃ ≡ headed (listOf Face rows flags) o₂ →
+      o₄ ≡ headed (listOf Volume rows flags) o₃ → o₄ ≡ listsOver rows flags o
   unfolding listsOver
   lists-over a b c d =
-      d ∙ ap (written (listOf Volume rows flags)) (c ∙ ap (written (listOf Face rows flags)) (b ∙ ap (written (listOf Edge rows flags)) a))
+      d ∙ ap (headed (listOf Volume rows flags)) (c ∙ ap (headed (listOf Face rows flags)) (b ∙ ap (headed (listOf Edge rows flags)) a))

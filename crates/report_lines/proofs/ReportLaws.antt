@@ -31,7 +31,7 @@ use Rattle.image_form.proofs.StoredLaws.{rows-length}
 use Rattle.map_betas.specs.Guards.{readerLoans}
 use Rattle.image_reader.specs.Tests.{loansTest, blocksTest, imageTest}
 use Rattle.image_fill.specs.Content.{flagsOf}
-use Rattle.image_reader.specs.Reads.{Read, left, wrote, testOf, readWithin, Accepted}
+use Rattle.image_reader.specs.Reads.{Read, readOut, wrote, testOf, readWithin, Accepted}
 use Rattle.image_reader.proofs.Accepted.{loans-pass, accepted-by}
 use Rattle.cell_steps.specs.Calls.{wiped}
 use Rattle.report_lines.specs.Report.{refusedLine, mapText, answerOf, imageText, reportOf, listsOver, leaves, reportLeaves}
@@ -60,14 +60,14 @@ module _ (bytes flags vertices : List ℕ) (coordinates : List Float) (rows : Li
   test-is : test ≡ answerOf bytes
   test-is = test-by (isDone (headerTest 1024 bytes)) refl
 
-  module _ (a : Answer) (f v : List ℕ) (c : List Float) (r : List ℕ) (e : left a f v c r ≡ readWithin 1024 bytes flags vertices coordinates rows) where
+  module _ (a : Answer) (f v : List ℕ) (c : List Float) (r : List ℕ) (e : readOut a f v c r ≡ readWithin 1024 bytes flags vertices coordinates rows) where
     pub tested : isDone a ≡ isDone (answerOf bytes)
     unfolding readWithin wrote
     tested = ap (λ (x : Read). isDone (x .answer)) e ∙ go (isDone test) refl ∙ ap isDone test-is
       where
         go : (b : Bool) → isDone test ≡ b →
             isDone (cond b (wrote bytes (dartsOf bytes) (verticesOf bytes) flags vertices coordinates rows)
-            (left test flags vertices coordinates rows) .answer) ≡ isDone test
+            (readOut test flags vertices coordinates rows) .answer) ≡ isDone test
         go true q = sym q
         go false q = refl
 
@@ -75,7 +75,7 @@ module _ (bytes flags vertices : List ℕ) (coordinates : List Float) (rows : Li
     unfolding readWithin
     refused-answer d =
         let q : isDone test ≡ false = ap isDone test-is ∙ sym tested ∙ d in
-        let s : readWithin 1024 bytes flags vertices coordinates rows ≡ left test flags vertices coordinates rows = simp q in
+        let s : readWithin 1024 bytes flags vertices coordinates rows ≡ readOut test flags vertices coordinates rows = simp q in
         ap (λ (x : Read). x .answer) (e ∙ s) ∙ test-is
 
     pub refused-is : (m : Bool) → m ≡ false → isDone a ≡ false → refusedLine a ≡ reportOf m bytes
@@ -90,7 +90,7 @@ module _ (bytes flags vertices : List ℕ) (coordinates : List Float) (rows : Li
     unfolding readWithin reportLeaves
     left-refused m em d marks queue output =
         let q : isDone test ≡ false = ap isDone test-is ∙ sym tested ∙ d in
-        let s : left a f v c r ≡ left test flags vertices coordinates rows = e ∙ simp q in
+        let s : readOut a f v c r ≡ readOut test flags vertices coordinates rows = e ∙ simp q in
         let k : isDone (answerOf bytes) ≡ false = sym tested ∙ d in
         ap (λ (x : Read). leaves (x .loans .flags) (x .loans .vertices) (x .loans .coordinates) (x .loans .rows) marks queue output) s ∙ simp (em, k)
 
@@ -101,7 +101,7 @@ module _ (bytes flags vertices : List ℕ) (coordinates : List Float) (rows : Li
       pub fit : Accepted 1024 bytes flags vertices coordinates rows
       fit = accepted-by 1024 bytes flags vertices coordinates rows (omega arith) passed
 
-      written : left a f v c r ≡ wrote bytes (dartsOf bytes) (verticesOf bytes) flags vertices coordinates rows
+      written : readOut a f v c r ≡ wrote bytes (dartsOf bytes) (verticesOf bytes) flags vertices coordinates rows
       unfolding readWithin
       written = e ∙ simp passed
 

@@ -11,7 +11,7 @@
 --   imageText bytes      the text of an image: five lines, or one that says what refuses it
 --   reportOf more bytes  the whole report; `more` says that the input has more than 46,080 bytes
 --   listsOver            an output with the four lists in its first places, each over the one before it
---   Left, leaves, reportLeaves   what the report leaves in its other loans
+--   ReportLoans, leaves, reportLeaves   what the report leaves in its other loans
 use Prim.Native.Nat.{ℕ, zero, suc, _+_, _-_}
 use mathlib.Core.List.{List, [], _∷_, _++_}
 use mathlib.Core.Bool.{Bool, cond, not, _&&_}
@@ -29,7 +29,7 @@ use Rattle.image_form.specs.Tests.{headerTest}
 use Rattle.image_reader.specs.Tests.{blocksTest}
 use Rattle.image_fill.specs.Content.{flagsOf}
 use Rattle.image_reader.specs.Reads.{wrote}
-use Rattle.cell_steps.specs.Calls.{wiped, written}
+use Rattle.cell_steps.specs.Calls.{wiped, headed}
 use Rattle.cell_steps.specs.declared.cells.Class.{Class}
 use Rattle.cell_steps.specs.declared.cells.Class.the-variants.{Vertex, Edge, Face, Volume}
 use Rattle.cell_names.specs.Cells.{listOf}
@@ -109,9 +109,9 @@ reportOf more bytes = cond more (refusedLine (Refused (BadImage 2))) (imageText 
 -- the lists of the four classes, each over the one before it
 unfoldable pub listsOver : List ℕ → List ℕ → List ℕ → List ℕ
 listsOver rows flags out =
-    written (listOf Volume rows flags) (written (listOf Face rows flags) (written (listOf Edge rows flags) (written (listOf Vertex rows flags) out)))
+    headed (listOf Volume rows flags) (headed (listOf Face rows flags) (headed (listOf Edge rows flags) (headed (listOf Vertex rows flags) out)))
 
-pub record Left : Type 0 where
+pub record ReportLoans : Type 0 where
   pub flags : List ℕ
   pub vertices : List ℕ
   pub coordinates : List Float
@@ -120,12 +120,12 @@ pub record Left : Type 0 where
   pub queue : List ℕ
   pub output : List ℕ
 
-abbrev pub leaves : List ℕ → List ℕ → List Float → List ℕ → List ℕ → List ℕ → List ℕ → Left
+abbrev pub leaves : List ℕ → List ℕ → List Float → List ℕ → List ℕ → List ℕ → List ℕ → ReportLoans
 leaves flags vertices coordinates rows marks queue output =
     record { flags = flags; vertices = vertices; coordinates = coordinates; rows = rows; marks = marks; queue = queue; output = output }
 
 -- an image that is read leaves what the reader writes, scratch at 0 on its first n places, and the lists; any other leaves all as it was
-unfoldable pub reportLeaves : Bool → List ℕ → List ℕ → List ℕ → List Float → List ℕ → List ℕ → List ℕ → List ℕ → Left
+unfoldable pub reportLeaves : Bool → List ℕ → List ℕ → List ℕ → List Float → List ℕ → List ℕ → List ℕ → List ℕ → ReportLoans
 reportLeaves more bytes flags vertices coordinates rows marks queue output =
     let n = dartsOf bytes in
     let read = wrote bytes n (verticesOf bytes) flags vertices coordinates rows in

@@ -15,7 +15,7 @@ ghost use Rattle.map_betas.specs.Betas.{darts};
 ghost use Rattle.map_betas.specs.Maps.{WellFormed};
 ghost use Rattle.report_text.specs.Texts.{put, lay};
 ghost use Rattle.report_lines.specs.Report.{valueOf, refusedLine, usedUpTo, headLine, classLine};
-ghost use Rattle.cell_steps.specs.Calls.{wiped, written};
+ghost use Rattle.cell_steps.specs.Calls.{wiped, headed};
 ghost use Rattle.cell_names.specs.Cells.{listOf};
 
 // Writes a number after one space.
@@ -87,7 +87,7 @@ pub fn put_class(
         × (r ≤ at + length (now (name .entry)) + 5122) ⌝ }
     ensures { λ r. ⌜ (now (marks .exit) ≡ wiped (darts (now (rows .entry))) (now (marks .entry)))
         × (now (queue .exit) ≡ wiped (darts (now (rows .entry))) (now (queue .entry)))
-        × (now (output .exit) ≡ written (listOf class (now (rows .entry)) (now (flags .entry))) (now (output .entry))) ⌝ }
+        × (now (output .exit) ≡ headed (listOf class (now (rows .entry)) (now (flags .entry))) (now (output .entry))) ⌝ }
 {
     let n = rows.len() / 4;
     wipe_marks(marks, n);

@@ -8,6 +8,7 @@
 --   EndLaws     how each sew and unsew ends
 --   CallLaws    a call behind its tests
 --   SewKept     a sew leaves a map a map
+--   Demand      so do the calls, and a refusal leaves rows and plan
 pub mod EntryLaws
 pub mod SideLaws
 pub mod OneLaws
@@ -17,3 +18,4 @@ pub mod SewnLaws
 pub mod EndLaws
 pub mod CallLaws
 pub mod SewKept
+pub mod Demand

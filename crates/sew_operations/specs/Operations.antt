@@ -3,13 +3,15 @@
 --   loansOf     the loans that it has, by their lengths
 --   Slots       the slots that it looks at are there
 --   operation   what it answers and leaves for any rows, any loans and any darts
+--   bare        the same of an operation that has no vertices
 use Prim.Native.Nat.{ℕ, _*_, _≤_}
-use mathlib.Core.List.{List}
+use mathlib.Core.List.{List, [], _∷_}
 use lib.Ieee.{Float}
 use lib.ListN.{length}
 use Rattle.map_betas.specs.declared.loans.Loans.{Loans}
 use Rattle.map_betas.specs.Answers.{Outcome}
 use Rattle.map_betas.specs.Guards.{scratchOf, vertexLoans, guardOf}
+use Rattle.sew_points.specs.Geometry.{plusZero}
 use Rattle.sew_ground.specs.Sewn.{Work}
 use Rattle.sew_ground.specs.One.{oneSewOn, oneUnsewOn}
 use Rattle.sew_ground.specs.Two.{twoSewOn, twoUnsewOn}
@@ -44,3 +46,7 @@ unfoldable pub operation : Operation → List ℕ → List ℕ → List ℕ → 
 operation op rows marks queue vertices coordinates plan ld rd =
     sewCall (guardOf rows (loansOf op (length marks) (length queue) (length vertices) (length coordinates)) 1 ld rd) rows marks queue plan
     (workOf op vertices coordinates rows ld rd)
+
+-- an operation that has no vertices, lent one slot that it does not look at
+unfoldable pub bare : Operation → List ℕ → List ℕ → List ℕ → List ℕ → ℕ → ℕ → Outcome SewLoans
+bare op rows marks queue plan ld rd = operation op rows marks queue (0 ∷ []) (plusZero ∷ []) plan ld rd

@@ -1,31 +1,24 @@
-// The operations on a map that have a plan: one function runs them, and one tests, wipes scratch and runs.
-use cell_scratch::scratch::wipe_marks;
-use cell_scratch::scratch::wipe_queue;
+// The operations on a map that have a plan, and the one function that runs them.
 use map_betas::error::Answer;
-use map_betas::error::is_done;
 use map_betas::loans::Loans;
 use map_betas::loans::scratch;
 use map_betas::loans::vertex_loans;
-use map_guard::guard::guard;
 use sew_one::one::one_sew_on;
 use sew_one::one::one_unsew_on;
 use sew_three::three::three_unsew_on;
 use sew_two::two::two_sew_on;
 use sew_two::two::two_unsew_on;
 ghost use mathlib.Core.Path.{_≡_};
-ghost use Prim.Native.Nat.{_/_, _≤_};
 ghost use lib.ListN.{length};
 ghost use Rattle.map_betas.specs.Betas.{darts};
-ghost use Rattle.map_betas.specs.Answers.{outcome};
 ghost use Rattle.map_betas.specs.Maps.{WellFormed};
 ghost use Rattle.map_betas.specs.Guards.{Dart};
 ghost use Rattle.cell_steps.specs.Loans.{Clean};
 ghost use Rattle.sew_ground.specs.Sewn.{leaves, sewn};
-ghost use Rattle.sew_ground.specs.Calls.{sewDone};
-ghost use Rattle.sew_operations.specs.Operations.{workOf, loansOf, Slots, operation as operationOf};
+ghost use Rattle.sew_operations.specs.Operations.{workOf, loansOf, Slots};
 
 // The sews and unsews. An unsew takes one dart, which is given twice.
-pub(crate) enum Operation {
+pub enum Operation {
     OneSew,
     OneUnsew,
     TwoSew,
@@ -34,7 +27,7 @@ pub(crate) enum Operation {
 }
 
 // The loans that an operation has.
-fn loans_of(
+pub fn loans_of(
     operation: Operation,
     marks: usize,
     queue: usize,
@@ -53,7 +46,7 @@ fn loans_of(
 }
 
 // Runs an operation on real darts of a map. Marks and queue are 0 before and after, n places each.
-fn run(
+pub fn run(
     operation: Operation,
     rows: &mut [u32],
     marks: &mut [u8],
@@ -77,79 +70,4 @@ fn run(
         Operation::TwoUnsew => two_unsew_on(rows, marks, queue, plan, ld),
         Operation::ThreeUnsew => three_unsew_on(rows, marks, queue, plan, ld),
     }
-}
-
-// An operation behind its tests: scratch is wiped, and its first n places are lent on.
-fn run_wiped(
-    operation: Operation,
-    rows: &mut [u32],
-    marks: &mut [u8],
-    queue: &mut [u32],
-    vertices: &[u8],
-    coordinates: &[f64],
-    plan: &mut [u32],
-    ld: u32,
-    rd: u32,
-) -> Answer
-    requires { ⌜ WellFormed (now rows) × (darts (now rows) ≤ length (now marks)) × (darts (now rows) ≤ length (now queue))
-        × Dart (darts (now rows)) 1 ld × Dart (darts (now rows)) 1 rd
-        × Slots operation (darts (now rows)) (length (now vertices)) (length (now coordinates)) ⌝ }
-    ensures { λ a. ⌜ outcome a (now (rows .exit), now (marks .exit), now (queue .exit), now (plan .exit))
-        ≡ sewDone (darts (now (rows .entry))) (now (marks .entry)) (now (queue .entry)) (sewn (now (rows .entry)) (now (plan .entry))
-        (workOf operation (now (vertices .entry)) (now (coordinates .entry)) (now (rows .entry)) ld rd)) ⌝ }
-{
-    let n = rows.len() / 4;
-    wipe_marks(marks, n);
-    wipe_queue(queue, n);
-    run(
-        operation,
-        rows,
-        &mut marks[..n],
-        &mut queue[..n],
-        vertices,
-        coordinates,
-        plan,
-        ld,
-        rd,
-    )
-}
-
-// An operation for any rows, loans and darts.
-pub(crate) fn operate(
-    operation: Operation,
-    rows: &mut [u32],
-    marks: &mut [u8],
-    queue: &mut [u32],
-    vertices: &[u8],
-    coordinates: &[f64],
-    plan: &mut [u32],
-    ld: u32,
-    rd: u32,
-) -> Answer
-    ensures { λ a. ⌜ outcome a (now (rows .exit), now (marks .exit), now (queue .exit), now (plan .exit))
-        ≡ operationOf operation (now (rows .entry)) (now (marks .entry)) (now (queue .entry)) (now (vertices .entry)) (now (coordinates .entry))
-        (now (plan .entry)) ld rd ⌝ }
-{
-    let loans = loans_of(
-        operation,
-        marks.len(),
-        queue.len(),
-        vertices.len(),
-        coordinates.len(),
-    );
-    let g = guard(rows, loans, 1, ld, rd);
-    if !is_done(g) {
-        return g;
-    }
-    run_wiped(
-        operation,
-        rows,
-        marks,
-        queue,
-        vertices,
-        coordinates,
-        plan,
-        ld,
-        rd,
-    )
 }

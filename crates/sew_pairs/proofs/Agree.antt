@@ -13,13 +13,13 @@ use Rattle.cell_steps.specs.Idents.{leastFrom, least, ident}
 use Rattle.sew_plan.specs.Plan.{splitOf, planOf, putPlan}
 use Rattle.sew_ground.specs.Entries.{entriesIf}
 use Rattle.sew_ground.specs.Sewn.{settled, sewn}
-use Rattle.sew_pairs.specs.Pairs.{threeFar, pairEntries, legOver, entriesFrom, tallied, tallyFrom}
-use Rattle.sew_pairs.specs.Three.{startTally, firstTally, backTally, wholeTally, firstEntries, backEntries, splitsOf, threeEntries, threeUnsewOn}
+use Rattle.sew_pairs.specs.Pairs.{threeFar, pairEntries, legOver, lefts, rights, entriesOf, pairsFrom, endFrom}
+use Rattle.sew_pairs.specs.Three.{firstPairs, firstEnd, backPairs, pairsOf, splitsOf, threeEntries, threeUnsewOn}
 use Rattle.sew_pairs.specs.Calls.{threeUnsew}
 use Rattle.sew_pairs.specs.Examples.{lines}
 
 pub agree : calls lines ≡ sayings lines
 unfolding lines calls sayings threeUnsew guardOf loanTest noDart mapTest firstBreach breachAt breaks badSize threeUnlinkOn unlinkCore stepOf walk image mem add
-    visit search orbit leastFrom least ident splitOf planOf putPlan entriesIf settled sewn threeFar pairEntries legOver entriesFrom tallied tallyFrom startTally
-    firstTally backTally wholeTally firstEntries backEntries splitsOf threeEntries threeUnsewOn
+    visit search orbit leastFrom least ident splitOf planOf putPlan entriesIf settled sewn threeFar pairEntries lefts rights entriesOf legOver pairsFrom endFrom
+    firstPairs firstEnd backPairs pairsOf splitsOf threeEntries threeUnsewOn
 agree = refl

@@ -1,129 +1,85 @@
--- No leg of a 3-unsew is cut short: after a 3-unlink that is done each leg ends where the 3-unlink's leg ended, at null or back at ld.
---   tally-far    a leg goes on as long as its left dart is real and not at the stop
---   first-over   the first leg ends at null or at ld
---   back-over    where it ends at null, the second leg ends at null
+-- No leg of a 3-unsew is cut short: on a map the first leg ends at null or back at ld, and where it ends at null the second ends at null.
+--   over, not-over           whether a leg is over at a dart
+--   leg-far                  a leg that ends after m pairs ends m steps on
+--   first-ends, first-end, first-over   the first leg ends, where, and before it has as many pairs as the rows have places
+--   back-ends, back-over     and so does the second, where the first has come to null
 -- Assumes nothing.
-use Prim.Native.Nat.{ℕ, zero, suc, _-_, _<_, _≤_}
+use Prim.Native.Nat.{ℕ, zero, suc, _<_, _≤_}
 use native.Mathlib.Omega.{arith}
+use native.Mathlib.Decide.{ℕ-discrete}
 use mathlib.Core.Path.{_≡_, refl, sym, ap, _∙_}
-use mathlib.Core.Logic.{_≢_, _⊎_, inl, inr, ⊎-elim}
-use mathlib.Core.Bool.{Bool, true, false, or-true}
+use mathlib.Core.Logic.{_≢_, _⊎_, inl, inr, ⊎-elim, by-cases}
+use mathlib.Core.Bool.{true, false, or-true}
 use mathlib.Core.List.{List}
 use lib.ListN.{length}
 use borrow.Author.Tests.{eq-eqb, ne-eqb}
 use Rattle.map_betas.specs.Betas.{beta, darts}
-use Rattle.map_betas.specs.Answers.{Out, isDone}
 use Rattle.map_betas.specs.Maps.{WellFormed}
 use Rattle.map_betas.specs.Chains.{far}
-use Rattle.map_betas.proofs.Chains.{Ends, far-zero, far-suc, far-alike}
-use Rattle.link_walk.specs.Walk.{LegOut}
-use Rattle.link_walk.specs.Three.{legOn, legBack, threeUnlinkOn}
-use Rattle.link_walk.proofs.StepLaws.{Changed, left-le}
-use Rattle.link_glue.proofs.Success.{Success, closed, opened, unlink-success}
-use Rattle.link_glue.proofs.Found.{Leaves, leaves₁, leaves₂, trace₁, trace₂}
-use Rattle.sew_pairs.specs.declared.tally.Tally.{Tally}
-use Rattle.sew_pairs.specs.Pairs.{legOver, tallied, tallyFrom}
-use Rattle.sew_pairs.specs.Three.{startTally, firstTally, backTally}
-use Rattle.sew_pairs.proofs.LegLaws.{tally-over, tally-next}
-use Rattle.sew_pairs.proofs.Relink.{had-image}
+use Rattle.map_betas.proofs.Chains.{Ends, far-suc, far-undo, round-real}
+use Rattle.cell_steps.proofs.ChainLaws.{chain-ends}
+use Rattle.sew_pairs.specs.Pairs.{legOver, endFrom, Over}
+use Rattle.sew_pairs.specs.Three.{firstEnd}
+use Rattle.sew_pairs.proofs.LegLaws.{leg-stops, one-on}
 
-over : (l stop : ℕ) → (l ≡ 0) ⊎ (l ≡ stop) → legOver l stop ≡ true
+pub over : (l stop : ℕ) → (l ≡ 0) ⊎ (l ≡ stop) → true ≡ legOver l stop
 unfolding legOver
 over l stop (inl e) = simp (eq-eqb l 0 e)
 over l stop (inr e) = simp (eq-eqb l stop e, or-true)
 
-not-over : (l stop : ℕ) → l ≢ 0 → l ≢ stop → legOver l stop ≡ false
+pub not-over : (l stop : ℕ) → l ≢ 0 → l ≢ stop → false ≡ legOver l stop
 unfolding legOver
 not-over l stop n m = simp (ne-eqb l 0 n, ne-eqb l stop m)
 
--- a leg goes on as long as its left dart is real and not at the stop
-tally-far : (exact : Bool) (base : List ℕ) (i j stop m g : ℕ) (t : Tally) → m ≤ g → Ends base i stop (t .l) m →
-    tallyFrom exact g base i j stop t .l ≡ far base i m (t .l)
-unfolding tallied far
-tally-far exact base i j stop zero g t h v =
-    sym (ap (λ (x : Tally). x .l) (tally-over exact g base i j stop t true (sym (over (t .l) stop (v .over))) refl))
-tally-far exact base i j stop (suc m) g t h v =
-    let n = v .run 0 (omega arith) in
-    ap (λ (x : Tally). x .l)
-    (sym
-    (tally-next exact g base i j stop t false (sym (not-over (t .l) stop (n .0) (n .1))) (tallied exact base i j t) (omega arith) refl refl))
-    ∙ tally-far exact base i j stop m (g - 1) (tallied exact base i j t) (omega arith)
-    (record { run = λ u q. v .run (suc u) (omega arith); over = v .over })
+module _ (rows : List ℕ) (i stop : ℕ) where
+  pub leg-far : (m f l : ℕ) → m ≤ f → Ends rows i stop l m → endFrom f rows i stop l ≡ far rows i m l
+  unfolding far
+  leg-far zero f l h v = leg-stops rows i 0 stop l 0 true (over l stop (v .over)) refl f .1
+  leg-far (suc m) zero l h v = absurd (omega arith)
+  leg-far (suc m) (suc f) l h v =
+      let n = v .run 0 (omega arith) in
+      one-on rows i 0 stop l 0 false (not-over l stop (n .0) (n .1)) refl f
+      ∙ leg-far m f (beta rows i l) (omega arith) (record { run = λ t q. v .run (suc t) (omega arith); over = v .over })
 
-module _ (exact : Bool) (rows : List ℕ) (ld rd : ℕ) (s : WellFormed rows) (hl : ld < darts rows) (nl : ld ≢ 0) (hr : rd < darts rows)
-    (rows₁ : List ℕ) (h : Changed true rows ld rd rows₁) (w : LegOut) (e : legOn true rows₁ ld rd ≡ w) (base : List ℕ) (k : Leaves rows base) where
-  -- steps in the rows that are left are steps in the rows at first
-  same : (i : ℕ) → i < 3 → (t d : ℕ) → far base i t d ≡ far rows i t d
-  same i hi t d = far-alike base rows i (λ x. k .low i x hi) t d
+  ends-over : (m l : ℕ) → m ≤ length rows → Ends rows i stop l m → Over rows i stop l
+  ends-over m l h v = ap (λ (d : ℕ). legOver d stop) (leg-far m (length rows) l h v) ∙ sym (over (far rows i m l) stop (v .over))
 
-  first-at : isDone (w .leg .answer) ≡ true → firstTally exact base ld rd .l ≡ w .leg .l
-  unfolding firstTally startTally
-  first-at d =
-      let v = trace₁ true rows ld rd s hl nl hr rows₁ h w e d in
-      let m : ℕ = v .0 in
-      let at : (t : ℕ) → far base 1 t (beta base 1 ld) ≡ far rows 1 (suc t) ld = λ t. sym (far-suc base 1 t ld) ∙ same 1 (omega arith) (suc t) ld in
-      tally-far exact base 1 0 ld m (length base) (startTally exact base ld rd) (omega (arith, v .1 .few, left-le true rows, k .long))
-      (record {
-        run = λ u g. (
-          λ z. v .1 .real-l (suc u) (omega arith) (sym (at u) ∙ z),
-          λ z. v .1 .distinct 0 (suc u) (omega arith) (omega arith) (far-zero rows 1 ld ∙ sym z ∙ at u),
-        );
-        over = ⊎-elim (λ z. inl (at m ∙ sym (v .1 .end-l) ∙ z)) (λ z. inr (at m ∙ sym (v .1 .end-l) ∙ z)) (v .1 .ended);
-      })
-      ∙ at m
-      ∙ sym (v .1 .end-l)
+module _ (rows : List ℕ) (w : WellFormed rows) (ld : ℕ) (lt : ld < darts rows) where
+  pub first-ends : (m : ℕ) × (m < darts rows) × Ends rows 1 ld (beta rows 1 ld) m
+  first-ends = chain-ends rows w 1 (omega arith) ld lt
 
-  back-at : (u : LegOut) → legBack true (w .rows) ld rd ≡ u → isDone (u .leg .answer) ≡ true → (t : Tally) → backTally exact base ld rd t .l ≡ u .leg .l
-  unfolding backTally
-  back-at u e₂ d t =
-      let v = trace₂ true rows ld rd s hl nl hr rows₁ h w e u e₂ d in
-      let m : ℕ = v .0 in
-      let at : (x : ℕ) → far base 0 x (beta base 0 ld) ≡ far rows 0 x (beta rows 0 ld) =
-      λ x. same 0 (omega arith) x (beta base 0 ld) ∙ ap (far rows 0 x) (k .low 0 ld (omega arith)) in
-      let long : length (w .rows) ≡ length rows = leaves₁ true rows ld rd s hl nl hr rows₁ h w e .long in
-      let real : (x : ℕ) → x < m → far base 0 x (beta base 0 ld) ≢ 0 = λ x g z. v .1 .real-l x g (sym (at x) ∙ z) in
-      tally-far exact base 0 1 0 m (length base) (record { left = t .left; right = t .right; count = t .count; l = beta base 0 ld; r = beta base 1 rd })
-      (omega (arith, v .1 .few, left-le true (w .rows), k .long))
-      (record {
-        run = λ x g. (real x g, real x g);
-        over = ⊎-elim (λ z. inl (at m ∙ sym (v .1 .end-l) ∙ z)) (λ z. inr (at m ∙ sym (v .1 .end-l) ∙ z)) (v .1 .ended);
-      })
-      ∙ at m
-      ∙ sym (v .1 .end-l)
+  few : (m : ℕ) → m < darts rows → m ≤ length rows
+  few m h = omega (arith, w .sized .whole)
 
--- the theorem, of the rows that a 3-unlink has left
-module _ (exact : Bool) (rows : List ℕ) (ld : ℕ) (s : WellFormed rows) (nl : ld ≢ 0) (hl : ld < darts rows)
-    (t : isDone (threeUnlinkOn rows ld .answer) ≡ true) where
-  abbrev rd : ℕ
-  rd = beta rows 3 ld
+  pub first-end : firstEnd rows ld ≡ far rows 1 (first-ends .0) (beta rows 1 ld)
+  unfolding firstEnd
+  first-end = leg-far rows 1 ld (first-ends .0) (length rows) (beta rows 1 ld) (few (first-ends .0) (first-ends .1)) (first-ends .2)
 
-  legs : Success true (beta rows 3 ld) rows ld (beta rows 3 ld) (threeUnlinkOn rows ld)
-  legs = unlink-success rows ld (beta rows 3 ld) s nl refl (had-image rows ld s nl hl t) t
+  pub first-over : Over rows 1 ld (beta rows 1 ld)
+  first-over = let e = first-ends in ends-over rows 1 ld (e .0) (beta rows 1 ld) (few (e .0) (e .1)) (e .2)
 
-  pub first-over : (firstTally exact (threeUnlinkOn rows ld .rows) ld (beta rows 3 ld) .l ≡ 0) ⊎
-      (firstTally exact (threeUnlinkOn rows ld .rows) ld (beta rows 3 ld) .l ≡ ld)
-  first-over = go (threeUnlinkOn rows ld) legs
-    where
-      go : (o : Out) → Success true rd rows ld rd o → (firstTally exact (o .rows) ld rd .l ≡ 0) ⊎ (firstTally exact (o .rows) ld rd .l ≡ ld)
-      go o (closed rows₁ h w e d z q) =
-          let p : firstTally exact (w .rows) ld rd .l ≡ w .leg .l =
-          first-at exact rows ld rd s hl nl (s .below 3 ld) rows₁ h w e (w .rows) (leaves₁ true rows ld rd s hl nl (s .below 3 ld) rows₁ h w e) d in
-          rw q (rw p (trace₁ true rows ld rd s hl nl (s .below 3 ld) rows₁ h w e d .1 .ended))
-      go o (opened rows₁ h w e d zl zr u e₂ d₂ q) =
-          let p : firstTally exact (u .rows) ld rd .l ≡ w .leg .l =
-          first-at exact rows ld rd s hl nl (s .below 3 ld) rows₁ h w e (u .rows) (leaves₂ true rows ld rd s hl nl (s .below 3 ld) rows₁ h w e u e₂) d in
-          rw q (inl (p ∙ zl))
+  module _ (z : firstEnd rows ld ≡ 0) where
+    -- beta 0 does not lead back to ld, for then beta 1 would not have come to null
+    not-round : (m : ℕ) → ld ≢ 0 → far rows 0 m (beta rows 0 ld) ≢ ld
+    not-round m real e =
+        let c : far rows 0 (suc m) ld ≡ ld = far-suc rows 0 m ld ∙ e in
+        let u : far rows 1 (suc m) ld ≡ ld =
+        ap (far rows 1 (suc m)) (sym c) ∙ far-undo rows w 0 (omega arith) (suc m) ld (λ n. real (sym c ∙ n)) in
+        round-real rows w 1 (omega arith) m ld real u (suc (first-ends .0)) (far-suc rows 1 (first-ends .0) ld ∙ sym first-end ∙ z)
 
-  pub back-over : (x : Tally) → firstTally exact (threeUnlinkOn rows ld .rows) ld (beta rows 3 ld) .l ≡ 0 →
-      backTally exact (threeUnlinkOn rows ld .rows) ld (beta rows 3 ld) x .l ≡ 0
-  back-over x = go (threeUnlinkOn rows ld) legs
-    where
-      go : (o : Out) → Success true rd rows ld rd o → firstTally exact (o .rows) ld rd .l ≡ 0 → backTally exact (o .rows) ld rd x .l ≡ 0
-      go o (closed rows₁ h w e d z q) c =
-          absurd (z (sym (first-at exact rows ld rd s hl nl (s .below 3 ld) rows₁ h w e (w .rows)
-          (leaves₁ true rows ld rd s hl nl (s .below 3 ld) rows₁ h w e) d)
-          ∙ ap (λ (y : Out). firstTally exact (y .rows) ld rd .l) (sym q) ∙ c))
-      go o (opened rows₁ h w e d zl zr u e₂ d₂ q) c =
-          rw q
-          (back-at exact rows ld rd s hl nl (s .below 3 ld) rows₁ h w e (u .rows) (leaves₂ true rows ld rd s hl nl (s .below 3 ld) rows₁ h w e u e₂) u e₂ d₂ x
-          ∙ ⊎-elim (λ (a : u .leg .l ≡ 0). a) (λ (a : u .leg .l ≡ 0). a) (trace₂ true rows ld rd s hl nl (s .below 3 ld) rows₁ h w e u e₂ d₂ .1 .ended))
+    pub back-ends : (k : ℕ) × (k < darts rows) × Ends rows 0 0 (beta rows 0 ld) k
+    back-ends =
+        let e = chain-ends rows w 0 (omega arith) ld lt in (
+          e .0,
+          e .1,
+          record {
+            run = λ t h. (e .2 .run t h .0, e .2 .run t h .0);
+            over =
+                ⊎-elim inl
+                (λ q. inl (by-cases (ℕ-discrete ld 0) (λ (y : ld ≡ 0). q ∙ y) (λ (n : ld ≢ 0). absurd (not-round (e .0) n q))))
+                (e .2 .over);
+          },
+        )
+
+    pub back-over : Over rows 0 0 (beta rows 0 ld)
+    back-over = let e = back-ends in ends-over rows 0 0 (e .0) (beta rows 0 ld) (few (e .0) (e .1)) (e .2)

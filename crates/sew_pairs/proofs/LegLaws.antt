@@ -1,28 +1,25 @@
--- The legs, turn by turn, with the values as the code has them.
---   over-null, over-at      whether a leg is over
---   pair-exact, pair-loose  how many entries a pair counts for
---   noted, tallied-below    a tally with one pair more, and the pair that comes next
---   tally-over, tally-next, tally-none     a turn of the loop that tallies
---   entries-over, entries-next, entries-none   a turn of the loop that writes
---   agreed                  an exact tally and one that is not know the same but for the count
---   pair-counts, counted    a tally counts the entries of its leg, or at least as many
+-- The legs of a 3-unsew, turn by turn, with the values as the code has them.
+--   over-null, over-at       whether a leg is over
+--   leg-stops                where it is over it has no pair
+--   one-pair, one-on, leg-next   else its first pair is that of l and r, and the rest is the leg from the next pair on
+--   pairs-few                a leg has no more pairs than it may have
+--   entries-append           the splits of pairs and then of others
+--   entries-turn, leg-ends   a turn of the loop that writes, and its end
 -- Assumes nothing.
-use Prim.Native.Nat.{ℕ, zero, suc, _+_, _-_, _<_, _≤_}
+use Prim.Native.Nat.{ℕ, zero, suc, _+_, _≤_}
 use native.Mathlib.Omega.{arith}
 use mathlib.Core.Path.{_≡_, refl, sym, ap, _∙_}
 use mathlib.Core.Logic.{_≢_}
-use mathlib.Core.Bool.{Bool, true, false, cond, false≢true}
-use mathlib.Core.List.{List, [], _++_}
+use mathlib.Core.Bool.{Bool, true, false, cond, true≢false}
+use mathlib.Core.List.{List, [], _∷_, _++_, append-assoc}
 use lib.Dec.{eqb}
 use lib.ListN.{length, length-append}
-use borrow.Author.Tests.{eq-eqb, ne-eqb, le-leb, lt-leb}
-use Rattle.map_betas.specs.Betas.{beta, darts}
-use Rattle.map_betas.specs.Maps.{WellFormed}
+use borrow.Author.Tests.{eq-eqb, ne-eqb}
+use Rattle.map_betas.specs.Betas.{beta}
 use Rattle.sew_plan.specs.declared.Entry.{Entry}
-use Rattle.sew_plan.specs.Plan.{lesserOf}
-use Rattle.sew_pairs.specs.declared.tally.Tally.{Tally}
-use Rattle.sew_pairs.specs.Pairs.{pairEntries, pairMost, pairCount, legOver, entriesFrom, tallied, tallyFrom}
-use Rattle.sew_pairs.proofs.PairLaws.{pair-few}
+use Rattle.sew_ground.specs.Entries.{writtenAll}
+use Rattle.sew_ground.proofs.EntryLaws.{written-both}
+use Rattle.sew_pairs.specs.Pairs.{Pairs, pairEntries, entriesOf, legOver, pairsFrom, endFrom, legPairs, legEnd, Over}
 
 module _ (l stop : ℕ) where
   pub over-null : l ≡ 0 → true ≡ legOver l stop
@@ -33,144 +30,104 @@ module _ (l stop : ℕ) where
   unfolding legOver
   over-at n = simp (ne-eqb l 0 n)
 
--- how many entries a pair counts for
-module _ (exact : Bool) (rows : List ℕ) (l r : ℕ) where
-  pub pair-exact : (k : ℕ) (es : List Entry) → exact ≡ true → k ≡ length es → es ≡ pairEntries rows l r → k ≡ pairCount exact rows l r
-  unfolding pairCount
-  pair-exact k es h e q = rw h (e ∙ ap (λ (x : List Entry). length x) q)
-
-  pub pair-loose : exact ≡ false → pairMost ≡ pairCount exact rows l r
-  unfolding pairCount
-  pair-loose h = rw h
-
-pub noted : (exact : Bool) (rows : List ℕ) (i j : ℕ) (t : Tally) (a b k x y : ℕ) → a ≡ lesserOf (t .left) (t .l) → b ≡ lesserOf (t .right) (t .r) →
-    k ≡ pairCount exact rows (t .l) (t .r) → x ≡ beta rows i (t .l) → y ≡ beta rows j (t .r) →
-    record { left = a; right = b; count = t .count + k; l = x; r = y } ≡ tallied exact rows i j t
-unfolding tallied
-noted exact rows i j t a b k x y ea eb ek ex ey =
-    λ s. record { left = ea s; right = eb s; count = t .count + ek s; l = ex s; r = ey s }
-
-pub tallied-below : (exact : Bool) (rows : List ℕ) (i j : ℕ) (t u : Tally) → WellFormed rows → u ≡ tallied exact rows i j t → (u .l < darts rows)
-    × (u .r < darts rows)
-unfolding tallied
-tallied-below exact rows i j t u w e = rw e (w .below i (t .l), w .below j (t .r))
-
--- the loop that tallies
-module _ (exact : Bool) (f : ℕ) (rows : List ℕ) (i j stop : ℕ) (t : Tally) (b : Bool) (e : b ≡ legOver (t .l) stop) where
-  pub tally-over : b ≡ true → t ≡ tallyFrom exact f rows i j stop t
-  unfolding tallyFrom
-  tally-over h = go f
+module _ (rows : List ℕ) (i j stop : ℕ) where
+  pub pairs-few : (f l r : ℕ) → length (pairsFrom f rows i j stop l r) ≤ f
+  unfolding pairsFrom
+  pairs-few zero l r = omega arith
+  pairs-few (suc f) l r = go (legOver l stop) (pairs-few f (beta rows i l) (beta rows j r))
     where
-      go : (g : ℕ) → t ≡ tallyFrom exact g rows i j stop t
-      go zero = refl
-      go (suc g) = simp (sym e ∙ h)
+      go : (b : Bool) → length (pairsFrom f rows i j stop (beta rows i l) (beta rows j r)) ≤ f →
+          length (cond b [] ((l, r) ∷ pairsFrom f rows i j stop (beta rows i l) (beta rows j r))) ≤ suc f
+      go true h = omega arith
+      go false h = omega arith
 
-  pub tally-next : (u : Tally) → 0 < f → b ≡ false → u ≡ tallied exact rows i j t → tallyFrom exact (f - 1) rows i j stop u ≡ tallyFrom exact f rows i j stop t
-  unfolding tallyFrom
-  tally-next u n h q =
-      let p : f ≡ suc (f - 1) = omega arith in
-      ap (tallyFrom exact (f - 1) rows i j stop) q
-      ∙ ap (λ (x : Bool). cond x t (tallyFrom exact (f - 1) rows i j stop (tallied exact rows i j t))) (sym (sym e ∙ h))
-      ∙ sym (ap (λ (m : ℕ). tallyFrom exact m rows i j stop t) p)
-
-pub tally-none : (exact : Bool) (f : ℕ) (rows : List ℕ) (i j stop : ℕ) (t : Tally) → f ≤ 0 → t ≡ tallyFrom exact f rows i j stop t
-unfolding tallyFrom
-tally-none exact zero rows i j stop t h = refl
-tally-none exact (suc f) rows i j stop t h = absurd (omega arith)
-
--- the loop that writes
-module _ (f : ℕ) (rows : List ℕ) (i j stop l r : ℕ) (b : Bool) (e : b ≡ legOver l stop) where
-  pub entries-over : b ≡ true → [] ≡ entriesFrom f rows i j stop l r
-  unfolding entriesFrom
-  entries-over h = go f
+  -- more turns than a leg needs change nothing
+  leg-stable : (f l r : ℕ) → legOver (endFrom f rows i stop l) stop ≡ true →
+      (pairsFrom (suc f) rows i j stop l r ≡ pairsFrom f rows i j stop l r) × (endFrom (suc f) rows i stop l ≡ endFrom f rows i stop l)
+  unfolding pairsFrom endFrom
+  leg-stable zero l r e = (simp e, simp e)
+  leg-stable (suc f) l r e = go (legOver l stop) (leg-stable f (beta rows i l) (beta rows j r)) e
     where
-      go : (g : ℕ) → [] ≡ entriesFrom g rows i j stop l r
-      go zero = refl
-      go (suc g) = simp (sym e ∙ h)
+      go : (b : Bool) →
+          (legOver (endFrom f rows i stop (beta rows i l)) stop ≡ true →
+          (pairsFrom (suc f) rows i j stop (beta rows i l) (beta rows j r) ≡ pairsFrom f rows i j stop (beta rows i l) (beta rows j r))
+          × (endFrom (suc f) rows i stop (beta rows i l) ≡ endFrom f rows i stop (beta rows i l))) →
+          legOver (cond b l (endFrom f rows i stop (beta rows i l))) stop ≡ true →
+          (cond b [] ((l, r) ∷ pairsFrom (suc f) rows i j stop (beta rows i l) (beta rows j r))
+          ≡ cond b [] ((l, r) ∷ pairsFrom f rows i j stop (beta rows i l) (beta rows j r)))
+          × (cond b l (endFrom (suc f) rows i stop (beta rows i l)) ≡ cond b l (endFrom f rows i stop (beta rows i l)))
+      go true next o = (refl, refl)
+      go false next o =
+          let s = next o in
+          (ap (λ (ps : Pairs). (l, r) ∷ ps) (s .0), s .1)
 
-  pub entries-next : (x y : ℕ) → 0 < f → b ≡ false → x ≡ beta rows i l → y ≡ beta rows j r →
-      pairEntries rows l r ++ entriesFrom (f - 1) rows i j stop x y ≡ entriesFrom f rows i j stop l r
-  unfolding entriesFrom
-  entries-next x y n h ex ey =
-      let p : f ≡ suc (f - 1) = omega arith in
-      ap (λ (z : ℕ). pairEntries rows l r ++ entriesFrom (f - 1) rows i j stop z y) ex
-      ∙ ap (λ (z : ℕ). pairEntries rows l r ++ entriesFrom (f - 1) rows i j stop (beta rows i l) z) ey
-      ∙ ap (λ (z : Bool). cond z [] (pairEntries rows l r ++ entriesFrom (f - 1) rows i j stop (beta rows i l) (beta rows j r))) (sym (sym e ∙ h))
-      ∙ sym (ap (λ (m : ℕ). entriesFrom m rows i j stop l r) p)
+  module _ (l r : ℕ) (b : Bool) (e : b ≡ legOver l stop) where
+    pub leg-stops : b ≡ true → (f : ℕ) → (pairsFrom f rows i j stop l r ≡ []) × (endFrom f rows i stop l ≡ l)
+    unfolding pairsFrom endFrom
+    leg-stops h zero = (refl, refl)
+    leg-stops h (suc f) = (simp (sym e ∙ h), simp (sym e ∙ h))
 
-pub entries-none : (f : ℕ) (rows : List ℕ) (i j stop l r : ℕ) → f ≤ 0 → [] ≡ entriesFrom f rows i j stop l r
-unfolding entriesFrom
-entries-none zero rows i j stop l r h = refl
-entries-none (suc f) rows i j stop l r h = absurd (omega arith)
+    module _ (h : b ≡ false) where
+      pub one-pair : (f : ℕ) → pairsFrom (suc f) rows i j stop l r ≡ (l, r) ∷ pairsFrom f rows i j stop (beta rows i l) (beta rows j r)
+      unfolding pairsFrom
+      one-pair f = simp (sym e ∙ h)
 
--- two tallies that know the same but for the count
-abbrev pub Alike : Tally → Tally → Type 0
-Alike t u = (t .left ≡ u .left) × (t .right ≡ u .right) × (t .l ≡ u .l) × (t .r ≡ u .r)
+      pub one-on : (f : ℕ) → endFrom (suc f) rows i stop l ≡ endFrom f rows i stop (beta rows i l)
+      unfolding endFrom
+      one-on f = simp (sym e ∙ h)
 
-module _ (exact loose : Bool) (rows : List ℕ) (i j stop : ℕ) where
-  abbrev Agrees : ℕ → Type 0
-  Agrees f = (t u : Tally) → Alike t u → Alike (tallyFrom exact f rows i j stop t) (tallyFrom loose f rows i j stop u)
+      none-over : legOver (endFrom 0 rows i stop l) stop ≡ true → ⊥
+      unfolding endFrom
+      none-over o = true≢false (sym o ∙ sym e ∙ h)
 
-  one-more : (t u : Tally) → Alike t u → Alike (tallied exact rows i j t) (tallied loose rows i j u)
-  unfolding tallied
-  one-more t u (a, b, el, er) = (
-    (λ s. lesserOf (a s) (el s)),
-    (λ s. lesserOf (b s) (er s)),
-    ap (λ (x : ℕ). beta rows i x) el,
-    ap (λ (x : ℕ). beta rows j x) er,
-  )
+      pub leg-next : Over rows i stop l → (x y : ℕ) → x ≡ beta rows i l → y ≡ beta rows j r →
+          (legPairs rows i j stop l r ≡ (l, r) ∷ legPairs rows i j stop x y)
+          × (legEnd rows i stop l ≡ legEnd rows i stop x) × Over rows i stop x
+      leg-next o x y ex ey = rw (ex, ey) (go (length rows) o)
+        where
+          go : (f : ℕ) → legOver (endFrom f rows i stop l) stop ≡ true →
+              (pairsFrom f rows i j stop l r ≡ (l, r) ∷ pairsFrom f rows i j stop (beta rows i l) (beta rows j r))
+              × (endFrom f rows i stop l ≡ endFrom f rows i stop (beta rows i l)) × (legOver (endFrom f rows i stop (beta rows i l)) stop ≡ true)
+          go zero q = absurd (none-over q)
+          go (suc f) q =
+              let q′ : legOver (endFrom f rows i stop (beta rows i l)) stop ≡ true = ap (λ (d : ℕ). legOver d stop) (sym (one-on f)) ∙ q in
+              let s = leg-stable f (beta rows i l) (beta rows j r) q′ in (
+                one-pair f ∙ ap (λ (ps : Pairs). (l, r) ∷ ps) (sym (s .0)),
+                one-on f ∙ sym (s .1),
+                ap (λ (d : ℕ). legOver d stop) (s .1) ∙ q′,
+              )
 
-  agrees-on : (f : ℕ) → Agrees f → Agrees (suc f)
-  unfolding tallyFrom
-  agrees-on f ih t u h =
-      let e : legOver (t .l) stop ≡ legOver (u .l) stop = ap (λ (x : ℕ). legOver x stop) (h .2) in
-      rw e (go (legOver (u .l) stop))
-    where
-      go : (b : Bool) → Alike (cond b t (tallyFrom exact f rows i j stop (tallied exact rows i j t)))
-          (cond b u (tallyFrom loose f rows i j stop (tallied loose rows i j u)))
-      go true = h
-      go false = ih (tallied exact rows i j t) (tallied loose rows i j u) (one-more t u h)
+-- the splits of pairs and then of others
+pub entries-append : (rows : List ℕ) (ps qs : Pairs) → entriesOf rows (ps ++ qs) ≡ entriesOf rows ps ++ entriesOf rows qs
+unfolding entriesOf
+entries-append rows [] qs = refl
+entries-append rows (p ∷ ps) qs =
+    ap (λ (es : List Entry). pairEntries rows (p .0) (p .1) ++ es) (entries-append rows ps qs)
+    ∙ sym (append-assoc (pairEntries rows (p .0) (p .1)) (entriesOf rows ps) (entriesOf rows qs))
 
-  agrees-not : Agrees zero
-  unfolding tallyFrom
-  agrees-not t u h = h
+-- the loop that writes: the pair of l and r, and the pairs ps behind it
+module _ (rows : List ℕ) (l r : ℕ) (ps qs : Pairs) (e : qs ≡ (l, r) ∷ ps) where
+  parts : entriesOf rows qs ≡ pairEntries rows l r ++ entriesOf rows ps
+  unfolding entriesOf
+  parts = ap (entriesOf rows) e
 
-  pub agreed : (f : ℕ) → Agrees f
-  agreed zero = agrees-not
-  agreed (suc f) = agrees-on f (agreed f)
+  pub pair-fits : length (pairEntries rows l r) ≤ length (entriesOf rows qs)
+  pair-fits = omega (arith, ap (λ (es : List Entry). length es) parts, length-append (pairEntries rows l r) (entriesOf rows ps))
 
--- k counts n things, or at least as many if it need not be exact
-abbrev pub Counts : Bool → ℕ → ℕ → Type 0
-Counts exact n k = (n ≤ k) × (exact ≡ true → k ≤ n)
+  pub entries-turn : (plan plan₁ : List ℕ) (k k₁ : ℕ) → plan₁ ≡ writtenAll plan k (pairEntries rows l r) → k₁ ≡ k + length (pairEntries rows l r) →
+      (k₁ + length (entriesOf rows ps) ≡ k + length (entriesOf rows qs)) × (writtenAll plan₁ k₁ (entriesOf rows ps) ≡ writtenAll plan k (entriesOf rows qs))
+  entries-turn plan plan₁ k k₁ p q =
+      let es : List Entry = pairEntries rows l r in
+      let fs : List Entry = entriesOf rows ps in (
+        omega (arith, q, ap (λ (x : List Entry). length x) parts, length-append es fs),
+        ap (λ (x : List ℕ). writtenAll x k₁ fs) p ∙ ap (λ (x : ℕ). writtenAll (writtenAll plan k es) x fs) q ∙ written-both plan k es fs
+            ∙ ap (writtenAll plan k) (sym parts),
+      )
 
-pub pair-counts : (exact : Bool) (rows : List ℕ) (l r : ℕ) → Counts exact (length (pairEntries rows l r)) (pairCount exact rows l r)
-unfolding pairCount
-pair-counts true rows l r = (omega arith, λ h. omega arith)
-pair-counts false rows l r = (omega (arith, pair-few rows l r), λ h. absurd (false≢true h))
-
--- what a tally counts
-module _ (exact : Bool) (rows : List ℕ) (i j stop : ℕ) where
-  abbrev LegCounts : ℕ → Type 0
-  LegCounts f = (t : Tally) → Counts exact (t .count + length (entriesFrom f rows i j stop (t .l) (t .r))) (tallyFrom exact f rows i j stop t .count)
-
-  counts-on : (f : ℕ) → LegCounts f → LegCounts (suc f)
-  unfolding tallyFrom entriesFrom tallied
-  counts-on f ih t = go (legOver (t .l) stop)
-    where
-      go : (b : Bool) → Counts exact
-          (t .count + length (cond b [] (pairEntries rows (t .l) (t .r) ++ entriesFrom f rows i j stop (beta rows i (t .l)) (beta rows j (t .r)))))
-          (cond b t (tallyFrom exact f rows i j stop (tallied exact rows i j t)) .count)
-      go true = (omega arith, λ h. omega arith)
-      go false =
-          let q = ih (tallied exact rows i j t) in
-          let p = pair-counts exact rows (t .l) (t .r) in
-          let n = length-append (pairEntries rows (t .l) (t .r)) (entriesFrom f rows i j stop (beta rows i (t .l)) (beta rows j (t .r))) in
-          (omega (arith, q .0, p .0, n), λ h. omega (arith, q .1 h, p .1 h, n))
-
-  counts-not : LegCounts zero
-  unfolding tallyFrom entriesFrom
-  counts-not t = (omega arith, λ h. omega arith)
-
-  pub counted : (f : ℕ) → LegCounts f
-  counted zero = counts-not
-  counted (suc f) = counts-on f (counted f)
+pub leg-ends : (rows plan : List ℕ) (k : ℕ) (ps : Pairs) (x : ℕ) (y : List ℕ) → ps ≡ [] → k + length (entriesOf rows ps) ≡ x →
+    writtenAll plan k (entriesOf rows ps) ≡ y → (k ≡ x) × (plan ≡ y)
+unfolding writtenAll entriesOf
+leg-ends rows plan k ps x y e p q = (
+  omega (arith, ap (λ (z : Pairs). length (entriesOf rows z)) e, p),
+  ap (λ (z : Pairs). writtenAll plan k (entriesOf rows z)) (sym e) ∙ q,
+)

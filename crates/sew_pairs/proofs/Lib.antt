@@ -5,6 +5,7 @@
 --   SplitLaws   the plan, part by part
 --   UnsewLaws   how a 3-unsew ends, and that it leaves a map
 --   Ends        no leg is cut short
+--   Parted      the pairs are those that the 3-unlink has parted
 --   Agree       the proved examples
 pub mod Relink
 pub mod PairLaws
@@ -12,4 +13,5 @@ pub mod LegLaws
 pub mod SplitLaws
 pub mod UnsewLaws
 pub mod Ends
+pub mod Parted
 pub mod Agree

@@ -26,7 +26,7 @@ use Rattle.sew_ground.specs.declared.items.Item.{Item}
 use Rattle.sew_ground.specs.Entries.{entryOf, entriesIf, listed, allOf}
 use Rattle.sew_ground.proofs.EntryLaws.{none-asked, three-items}
 use Rattle.sew_ground.proofs.SideLaws.{larger-below}
-use Rattle.sew_pairs.specs.Pairs.{threeFar, pairEntries, pairMost}
+use Rattle.sew_pairs.specs.Pairs.{threeFar, pairEntries}
 
 module _ (rows : List ℕ) (d : ℕ) where
   pub far-is : (b₁ b₂ far : ℕ) → b₁ ≡ beta rows 1 d → b₂ ≡ beta rows 2 d → far ≡ larger b₁ b₂ → far ≡ threeFar rows d
@@ -66,7 +66,7 @@ one-or-none asked cells kind a b = go (asked && not (eqb a b)) (entryOf cells ki
     go true e = omega arith
     go false e = omega arith
 
-pub pair-few : (rows : List ℕ) (l r : ℕ) → length (pairEntries rows l r) ≤ pairMost
+pub pair-few : (rows : List ℕ) (l r : ℕ) → length (pairEntries rows l r) ≤ 3
 unfolding pairEntries
 pair-few rows l r =
     let es : List Entry = entriesIf true Edge Split (edgeId rows l) (edgeId rows r) in

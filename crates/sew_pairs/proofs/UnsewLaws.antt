@@ -6,6 +6,7 @@
 --   three-done      done
 --   three-kept      a 3-unsew leaves a map of as many darts, done or refused
 --   call-kept       and so does the call, whatever its loans and its dart
+--   call-three-unsew-refused   a refused call leaves rows and plan as they were
 -- Assumes nothing.
 use Prim.Native.Nat.{ℕ, _/_, _<_}
 use native.Mathlib.Omega.{arith}
@@ -27,6 +28,7 @@ use Rattle.link_walk.proofs.Kept.{Keeps, unlink-kept, three-unlink-unmoved}
 use Rattle.sew_ground.specs.Sewn.{Work, leaves, dartOf, Settled, settles, settled, afterPlan, sewn}
 use Rattle.sew_ground.proofs.SewnLaws.{ends-refused, ends-tight, ends-done}
 use Rattle.sew_ground.specs.Calls.{sewDone, sewGuard}
+use Rattle.sew_ground.proofs.Demand.{sew-refused}
 use Rattle.sew_pairs.specs.Three.{threeEntries, threeUnsewOn}
 use Rattle.sew_pairs.specs.Calls.{threeUnsew}
 use Rattle.sew_pairs.proofs.Relink.{had-image, answers, relinks}
@@ -124,3 +126,8 @@ call-kept rows marks queue plan ld w = go (isDone (sewGuard rows marks queue ld 
         .loans .0)
     go true e = three-kept rows plan w ld (ready rows (scratchOf (length marks) (length queue)) 1 ld ld e .left)
     go false e = (w, refl)
+
+pub call-three-unsew-refused : (rows marks queue plan : List ℕ) (ld : ℕ) → isDone (threeUnsew rows marks queue plan ld .answer) ≡ false →
+    (threeUnsew rows marks queue plan ld .loans .0 ≡ rows) × (threeUnsew rows marks queue plan ld .loans .3 ≡ plan)
+unfolding threeUnsew
+call-three-unsew-refused rows marks queue plan ld = sew-refused (sewGuard rows marks queue ld ld) rows marks queue plan (threeUnsewOn rows ld)

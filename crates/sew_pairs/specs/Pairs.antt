@@ -1,28 +1,25 @@
--- The pairs of darts that a 3-unsew parts: their splits, and a tally of them.
---   threeFar rows d            M(beta 1, beta 2 of d)
---   pairEntries rows l r       the splits of one pair
---   legOver l stop             a leg is over at l
---   entriesFrom                the splits of the pairs of a leg
---   pairMost                   how many splits a pair can have
---   pairCount exact rows l r   how many splits one pair counts for
---   tallied exact rows i j t   a tally with one pair more
---   tallyFrom                  a tally with the pairs of a leg more
--- A leg goes from l and r, l on by beta i and r on by beta j, until l is null or at `stop`: at most f pairs. A leg that may have as many pairs as
--- the rows have places is over before that (`proofs/Ends.antt`). A tally counts the splits that there are, or,
--- where it need not be exact, as many as there can be.
-use Prim.Native.Nat.{ℕ, zero, suc, _+_}
+-- The pairs of darts that a 3-unsew parts, in the order of its walk, and the splits of a pair.
+--   threeFar rows d                 M(beta 1, beta 2 of d)
+--   pairEntries rows l r            the splits of one pair
+--   Pairs, lefts, rights            a list of pairs, its left darts and its right ones
+--   entriesOf rows ps               the splits of a list of pairs
+--   legOver l stop                  a leg is over at l
+--   pairsFrom, endFrom              the pairs of a leg, at most f, and the left dart at which it is over
+--   legPairs, legEnd                the same with as many pairs as the rows have places
+--   Over rows i stop l              a leg is over before it has so many
+-- A leg goes from l and r, l on by beta i and r on by beta j, until l is null or at `stop`. No leg of a 3-unsew is cut short (`proofs/Ends.antt`).
+use Prim.Native.Nat.{ℕ, zero, suc}
+use mathlib.Core.Path.{_≡_}
 use mathlib.Core.Bool.{Bool, true, cond, _||_}
-use mathlib.Core.List.{List, [], _++_}
+use mathlib.Core.List.{List, [], _∷_, _++_}
 use lib.Dec.{eqb}
 use lib.ListN.{length}
 use Rattle.map_betas.specs.Betas.{beta, larger}
 use Rattle.cell_steps.specs.declared.cells.Class.the-variants.{Vertex, Edge}
 use Rattle.sew_plan.specs.declared.Kind.the-variants.{Split}
 use Rattle.sew_plan.specs.declared.Entry.{Entry}
-use Rattle.sew_plan.specs.Plan.{lesserOf}
 use Rattle.sew_ground.specs.Ids.{vertexId, edgeId}
 use Rattle.sew_ground.specs.Entries.{entriesIf}
-use Rattle.sew_pairs.specs.declared.tally.Tally.{Tally}
 
 -- "M(beta 1, beta 2 of l)"
 unfoldable pub threeFar : List ℕ → ℕ → ℕ
@@ -36,35 +33,40 @@ pairEntries rows l r =
     ++ (entriesIf true Vertex Split (vertexId rows (threeFar rows l)) (vertexId rows r)
     ++ entriesIf (eqb (beta rows 0 l) 0) Vertex Split (vertexId rows l) (vertexId rows (threeFar rows r)))
 
+abbrev pub Pairs : Type 0
+Pairs = List (ℕ × ℕ)
+
+unfoldable pub lefts : Pairs → List ℕ
+lefts [] = []
+lefts (p ∷ ps) = p .0 ∷ lefts ps
+
+unfoldable pub rights : Pairs → List ℕ
+rights [] = []
+rights (p ∷ ps) = p .1 ∷ rights ps
+
+-- "Then for each pair: .."
+unfoldable pub entriesOf : List ℕ → Pairs → List Entry
+entriesOf rows [] = []
+entriesOf rows (p ∷ ps) = pairEntries rows (p .0) (p .1) ++ entriesOf rows ps
+
 -- "Until l is ld or null"
 unfoldable pub legOver : ℕ → ℕ → Bool
 legOver l stop = eqb l 0 || eqb l stop
 
--- "Then for each pair: .."
-unfoldable pub entriesFrom : ℕ → List ℕ → ℕ → ℕ → ℕ → ℕ → ℕ → List Entry
-entriesFrom zero rows i j stop l r = []
-entriesFrom (suc f) rows i j stop l r =
-    cond (legOver l stop) [] (pairEntries rows l r ++ entriesFrom f rows i j stop (beta rows i l) (beta rows j r))
+unfoldable pub pairsFrom : ℕ → List ℕ → ℕ → ℕ → ℕ → ℕ → ℕ → Pairs
+pairsFrom zero rows i j stop l r = []
+pairsFrom (suc f) rows i j stop l r =
+    cond (legOver l stop) [] ((l, r) ∷ pairsFrom f rows i j stop (beta rows i l) (beta rows j r))
 
--- "edge split if edges differ; .. split if different; .. likewise"
-abbrev pub pairMost : ℕ
-pairMost = 3
+unfoldable pub endFrom : ℕ → List ℕ → ℕ → ℕ → ℕ → ℕ
+endFrom zero rows i stop l = l
+endFrom (suc f) rows i stop l = cond (legOver l stop) l (endFrom f rows i stop (beta rows i l))
 
--- the splits that a pair has, or as many as it can have
-unfoldable pub pairCount : Bool → List ℕ → ℕ → ℕ → ℕ
-pairCount exact rows l r = cond exact (length (pairEntries rows l r)) pairMost
+abbrev pub legPairs : List ℕ → ℕ → ℕ → ℕ → ℕ → ℕ → Pairs
+legPairs rows i j stop l r = pairsFrom (length rows) rows i j stop l r
 
--- "least left, least right", how many entries, and the pair that comes next
-unfoldable pub tallied : Bool → List ℕ → ℕ → ℕ → Tally → Tally
-tallied exact rows i j t =
-    record {
-      left = lesserOf (t .left) (t .l);
-      right = lesserOf (t .right) (t .r);
-      count = t .count + pairCount exact rows (t .l) (t .r);
-      l = beta rows i (t .l);
-      r = beta rows j (t .r);
-    }
+abbrev pub legEnd : List ℕ → ℕ → ℕ → ℕ → ℕ
+legEnd rows i stop l = endFrom (length rows) rows i stop l
 
-unfoldable pub tallyFrom : Bool → ℕ → List ℕ → ℕ → ℕ → ℕ → Tally → Tally
-tallyFrom exact zero rows i j stop t = t
-tallyFrom exact (suc f) rows i j stop t = cond (legOver (t .l) stop) t (tallyFrom exact f rows i j stop (tallied exact rows i j t))
+abbrev pub Over : List ℕ → ℕ → ℕ → ℕ → Type 0
+Over rows i stop l = legOver (legEnd rows i stop l) stop ≡ true

@@ -1,3 +1,5 @@
--- Laws of plans that the sews cite, and the plans of document 01's examples.
+-- The laws of plans.
+--   PlanLaws   an entry written, and what that leaves of a plan
+--   Examples   the plans of document 01's examples
 pub mod PlanLaws
 pub mod Examples

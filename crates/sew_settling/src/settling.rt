@@ -2,8 +2,7 @@
 use map_betas::error::Answer;
 use map_betas::error::Refusal;
 use sew_splits::splits::write_splits;
-use sew_tallies::tallies::first_tally;
-use sew_tallies::tallies::whole_tally;
+use sew_tallies::tallies::tally_pairs;
 ghost use mathlib.Core.Path.{_≡_};
 ghost use Prim.Native.Nat.{_≤_, _<_};
 ghost use lib.ListN.{length};
@@ -31,8 +30,7 @@ fn wanted(
     if most <= room {
         return most;
     }
-    let t1 = first_tally(rows, marks, queue, true, ld, rd);
-    let t = whole_tally(rows, marks, queue, true, ld, rd, t1);
+    let t = tally_pairs(rows, marks, queue, true, ld, rd);
     t.count
 }
 
@@ -49,13 +47,12 @@ pub fn settle_splits(
     ensures { λ a. ⌜ settles a (now (plan .exit)) ≡ settled (now (plan .entry)) rd (threeEntries (now (rows .entry)) ld rd) ⌝ }
     ensures { λ a. ⌜ (now (marks .exit) ≡ now (marks .entry)) × (now (queue .exit) ≡ now (queue .entry)) ⌝ }
 {
-    let t1 = first_tally(rows, marks, queue, false, ld, rd);
-    let t = whole_tally(rows, marks, queue, false, ld, rd, t1);
+    let t = tally_pairs(rows, marks, queue, false, ld, rd);
     let room = sew_plan::room(plan);
     let k = wanted(rows, marks, queue, room, t.count, ld, rd);
     if room < k {
         return Answer::Refused(Refusal::PlanRoom(k));
     }
-    let n = write_splits(rows, marks, queue, plan, t1.l == 0, t.left, t.right, ld, rd);
+    let n = write_splits(rows, marks, queue, plan, t.l == 0, t.left, t.right, ld, rd);
     Answer::Done(rd, n)
 }

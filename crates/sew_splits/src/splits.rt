@@ -5,7 +5,8 @@ use sew_ground::items::put_items;
 use sew_pairs::pairs::pair_items;
 use sew_tallies::tallies::leg_over;
 ghost use mathlib.Core.Path.{_≡_};
-ghost use mathlib.Core.List.{_++_};
+ghost use mathlib.Core.List.{_∷_};
+ghost use lib.Dec.{eqb};
 ghost use Prim.Native.Nat.{_+_, _*_, _≤_, _<_};
 ghost use lib.ListN.{length};
 ghost use Rattle.map_betas.specs.Betas.{darts};
@@ -13,8 +14,8 @@ ghost use Rattle.map_betas.specs.Maps.{WellFormed};
 ghost use Rattle.sew_plan.specs.Plan.{width};
 ghost use Rattle.cell_steps.specs.Loans.{Clean};
 ghost use Rattle.sew_ground.specs.Entries.{writtenAll};
-ghost use Rattle.sew_pairs.specs.Pairs.{pairEntries, entriesFrom};
-ghost use Rattle.sew_pairs.specs.Three.{firstEntries, backEntries, splitsOf};
+ghost use Rattle.sew_pairs.specs.Pairs.{pairEntries, entriesOf, legPairs, Over};
+ghost use Rattle.sew_pairs.specs.Three.{firstPairs, firstEnd, backPairs, pairsOf, splitsOf};
 
 // Writes the splits of one pair from number `at` of the plan on, and gives back the number behind them.
 fn write_pair(
@@ -50,26 +51,25 @@ fn write_leg(
     r0: u32,
 ) -> usize
     requires { ⌜ WellFormed (now rows) × (i < 3) × (j < 3) × (l0 < darts (now rows)) × (r0 < darts (now rows))
-        × Clean (darts (now rows)) (now marks) (now queue) × (width * (at0 + length (entriesFrom (length (now rows)) (now rows) i j stop l0 r0)) ≤
-        length (now plan)) ⌝ }
-    ensures { λ k. ⌜ (k ≡ at0 + length (entriesFrom (length (now (rows .entry))) (now (rows .entry)) i j stop l0 r0))
-        × (now (plan .exit) ≡ writtenAll (now (plan .entry)) at0 (entriesFrom (length (now (rows .entry))) (now (rows .entry)) i j stop l0 r0)) ⌝ }
+        × Clean (darts (now rows)) (now marks) (now queue)
+        × (width * (at0 + length (entriesOf (now rows) (legPairs (now rows) i j stop l0 r0))) ≤ length (now plan))
+        × Over (now rows) i stop l0 ⌝ }
+    ensures { λ k. ⌜ (k ≡ at0 + length (entriesOf (now (rows .entry)) (legPairs (now (rows .entry)) i j stop l0 r0)))
+        × (now (plan .exit) ≡ writtenAll (now (plan .entry)) at0
+        (entriesOf (now (rows .entry)) (legPairs (now (rows .entry)) i j stop l0 r0))) ⌝ }
     ensures { λ k. ⌜ (now (marks .exit) ≡ now (marks .entry)) × (now (queue .exit) ≡ now (queue .entry)) ⌝ }
 {
     let mut l = l0;
     let mut r = r0;
     let mut at = at0;
-    let mut left = rows.len();
-    while 0 < left {
+    loop {
         if leg_over(l, stop) {
             return at;
         }
         at = write_pair(rows, marks, queue, plan, at, l, r);
         l = beta_at(rows, i, l);
         r = beta_at(rows, j, r);
-        left -= 1;
     }
-    at
 }
 
 // Writes the splits of the second leg, where the face is open, and gives back the number behind them.
@@ -84,9 +84,10 @@ fn write_back(
     rd: u32,
 ) -> usize
     requires { ⌜ WellFormed (now rows) × (ld < darts (now rows)) × (rd < darts (now rows)) × Clean (darts (now rows)) (now marks) (now queue)
-        × (width * (at + length (backEntries (now rows) ld rd opened)) ≤ length (now plan)) ⌝ }
-    ensures { λ k. ⌜ (k ≡ at + length (backEntries (now (rows .entry)) ld rd opened))
-        × (now (plan .exit) ≡ writtenAll (now (plan .entry)) at (backEntries (now (rows .entry)) ld rd opened)) ⌝ }
+        × (width * (at + length (entriesOf (now rows) (backPairs (now rows) ld rd))) ≤ length (now plan))
+        × (opened ≡ eqb (firstEnd (now rows) ld) 0) ⌝ }
+    ensures { λ k. ⌜ (k ≡ at + length (entriesOf (now (rows .entry)) (backPairs (now (rows .entry)) ld rd)))
+        × (now (plan .exit) ≡ writtenAll (now (plan .entry)) at (entriesOf (now (rows .entry)) (backPairs (now (rows .entry)) ld rd))) ⌝ }
     ensures { λ k. ⌜ (now (marks .exit) ≡ now (marks .entry)) × (now (queue .exit) ≡ now (queue .entry)) ⌝ }
 {
     if !opened {
@@ -107,9 +108,9 @@ fn write_first(
     rd: u32,
 ) -> usize
     requires { ⌜ WellFormed (now rows) × (ld < darts (now rows)) × (rd < darts (now rows)) × Clean (darts (now rows)) (now marks) (now queue)
-        × (width * (1 + length (pairEntries (now rows) ld rd) + length (firstEntries (now rows) ld rd)) ≤ length (now plan)) ⌝ }
-    ensures { λ k. ⌜ (k ≡ 1 + length (pairEntries (now (rows .entry)) ld rd ++ firstEntries (now (rows .entry)) ld rd))
-        × (now (plan .exit) ≡ writtenAll (now (plan .entry)) 1 (pairEntries (now (rows .entry)) ld rd ++ firstEntries (now (rows .entry)) ld rd)) ⌝ }
+        × (width * (1 + length (entriesOf (now rows) ((ld, rd) ∷ firstPairs (now rows) ld rd))) ≤ length (now plan)) ⌝ }
+    ensures { λ k. ⌜ (k ≡ 1 + length (entriesOf (now (rows .entry)) ((ld, rd) ∷ firstPairs (now (rows .entry)) ld rd)))
+        × (now (plan .exit) ≡ writtenAll (now (plan .entry)) 1 (entriesOf (now (rows .entry)) ((ld, rd) ∷ firstPairs (now (rows .entry)) ld rd))) ⌝ }
     ensures { λ k. ⌜ (now (marks .exit) ≡ now (marks .entry)) × (now (queue .exit) ≡ now (queue .entry)) ⌝ }
 {
     let at = write_pair(rows, marks, queue, plan, 1, ld, rd);
@@ -131,9 +132,10 @@ pub fn write_splits(
     rd: u32,
 ) -> usize
     requires { ⌜ WellFormed (now rows) × (ld < darts (now rows)) × (rd < darts (now rows)) × Clean (darts (now rows)) (now marks) (now queue)
-        × (width * length (splitsOf (now rows) ld rd opened left right) ≤ length (now plan)) ⌝ }
-    ensures { λ k. ⌜ (k ≡ length (splitsOf (now (rows .entry)) ld rd opened left right))
-        × (now (plan .exit) ≡ writtenAll (now (plan .entry)) 0 (splitsOf (now (rows .entry)) ld rd opened left right)) ⌝ }
+        × (width * length (splitsOf (now rows) left right (pairsOf (now rows) ld rd)) ≤ length (now plan))
+        × (opened ≡ eqb (firstEnd (now rows) ld) 0) ⌝ }
+    ensures { λ k. ⌜ (k ≡ length (splitsOf (now (rows .entry)) left right (pairsOf (now (rows .entry)) ld rd)))
+        × (now (plan .exit) ≡ writtenAll (now (plan .entry)) 0 (splitsOf (now (rows .entry)) left right (pairsOf (now (rows .entry)) ld rd))) ⌝ }
     ensures { λ k. ⌜ (now (marks .exit) ≡ now (marks .entry)) × (now (queue .exit) ≡ now (queue .entry)) ⌝ }
 {
     sew_plan::write_entry(plan, 0, sew_plan::split(Class::Face, left, right));

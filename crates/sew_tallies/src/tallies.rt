@@ -2,17 +2,24 @@
 use map_betas::betas::beta_at;
 use sew_ground::items::count;
 use sew_pairs::pairs::pair_items;
-use sew_pairs::tally::Tally;
 use sew_plan::lesser;
 ghost use mathlib.Core.Path.{_≡_};
+ghost use mathlib.Core.List.{[], _∷_};
 ghost use Prim.Native.Nat.{_+_, _*_, _≤_, _<_};
 ghost use lib.ListN.{length};
-ghost use Rattle.map_betas.specs.Betas.{darts};
+ghost use Rattle.map_betas.specs.Betas.{beta, darts};
 ghost use Rattle.map_betas.specs.Maps.{WellFormed};
-ghost use Rattle.sew_plan.specs.Plan.{lesserOf};
 ghost use Rattle.cell_steps.specs.Loans.{Clean};
-ghost use Rattle.sew_pairs.specs.Pairs.{pairCount, legOver, tallied, tallyFrom};
-ghost use Rattle.sew_pairs.specs.Three.{firstTally, wholeTally};
+ghost use Rattle.sew_pairs.specs.Pairs.{legOver, legPairs, legEnd, Over};
+ghost use Rattle.sew_tallies.specs.Tallies.{pairCount, tallied, tallyOf};
+
+// The least darts so far on the left and on the right, how many entries (exactly or at most), and the left dart at which the leg stands.
+pub struct Tally {
+    pub left: u32,
+    pub right: u32,
+    pub count: usize,
+    pub l: u32,
+}
 
 // Whether a leg is over at l.
 pub fn leg_over(l: u32, stop: u32) -> bool
@@ -44,23 +51,22 @@ fn pair_count(
     count(items)
 }
 
-// A tally with its next pair, l going on by beta i and r by beta j.
+// A tally with the pair of its dart and r, the left dart going on by beta i.
 fn note(
     rows: &[u32],
     marks: &mut [u8],
     queue: &mut [u32],
     exact: bool,
     i: u32,
-    j: u32,
     t: Tally,
+    r: u32,
 ) -> Tally
-    requires { ⌜ WellFormed (now rows) × (i < 3) × (j < 3) × (t .l < darts (now rows)) × (t .r < darts (now rows))
-        × Clean (darts (now rows)) (now marks) (now queue) × (t .count ≤ 100000000) ⌝ }
-    ensures { λ u. ⌜ (u ≡ tallied exact (now (rows .entry)) i j t) × (u .count ≤ t .count + 3) ⌝ }
+    requires { ⌜ WellFormed (now rows) × (i < 3) × (t .l < darts (now rows)) × (r < darts (now rows)) × Clean (darts (now rows)) (now marks) (now queue)
+        × (t .count ≤ 100000000) ⌝ }
+    ensures { λ u. ⌜ (u ≡ tallied exact (now (rows .entry)) t ((t .l, r) ∷ []) (beta (now (rows .entry)) i (t .l))) × (u .count ≤ t .count + 3) ⌝ }
     ensures { λ u. ⌜ (now (marks .exit) ≡ now (marks .entry)) × (now (queue .exit) ≡ now (queue .entry)) ⌝ }
 {
     let l = t.l;
-    let r = t.r;
     let k = pair_count(rows, marks, queue, exact, l, r);
     let left = lesser(t.left, l);
     let right = lesser(t.right, r);
@@ -69,11 +75,10 @@ fn note(
         right,
         count: t.count + k,
         l: beta_at(rows, i, l),
-        r: beta_at(rows, j, r),
     }
 }
 
-// A tally with the pairs of a leg, from the pair that comes next on.
+// A tally with the pairs of a leg, from that of its dart and r0 on.
 fn tally_leg(
     rows: &[u32],
     marks: &mut [u8],
@@ -83,27 +88,27 @@ fn tally_leg(
     j: u32,
     stop: u32,
     t0: Tally,
+    r0: u32,
 ) -> Tally
-    requires { ⌜ WellFormed (now rows) × (i < 3) × (j < 3) × (t0 .l < darts (now rows)) × (t0 .r < darts (now rows))
-        × Clean (darts (now rows)) (now marks) (now queue) × (t0 .count ≤ 20000000) ⌝ }
-    ensures { λ u. ⌜ (u ≡ tallyFrom exact (length (now (rows .entry))) (now (rows .entry)) i j stop t0)
-        × (u .count ≤ t0 .count + 3 * length (now (rows .entry))) ⌝ }
+    requires { ⌜ WellFormed (now rows) × (i < 3) × (j < 3) × (t0 .l < darts (now rows)) × (r0 < darts (now rows))
+        × Clean (darts (now rows)) (now marks) (now queue) × (t0 .count ≤ 20000000) × Over (now rows) i stop (t0 .l) ⌝ }
+    ensures { λ u. ⌜ (u ≡ tallied exact (now (rows .entry)) t0 (legPairs (now (rows .entry)) i j stop (t0 .l) r0)
+        (legEnd (now (rows .entry)) i stop (t0 .l))) × (u .count ≤ t0 .count + 3 * length (now (rows .entry))) ⌝ }
     ensures { λ u. ⌜ (now (marks .exit) ≡ now (marks .entry)) × (now (queue .exit) ≡ now (queue .entry)) ⌝ }
 {
     let mut t = t0;
-    let mut left = rows.len();
-    while 0 < left {
+    let mut r = r0;
+    loop {
         if leg_over(t.l, stop) {
             return t;
         }
-        t = note(rows, marks, queue, exact, i, j, t);
-        left -= 1;
+        t = note(rows, marks, queue, exact, i, t, r);
+        r = beta_at(rows, j, r);
     }
-    t
 }
 
-// The tally of ld, rd and the first leg.
-pub fn first_tally(
+// The tally of all pairs, the face split counted too. The second leg is walked where the first has come to null.
+pub fn tally_pairs(
     rows: &[u32],
     marks: &mut [u8],
     queue: &mut [u32],
@@ -112,44 +117,45 @@ pub fn first_tally(
     rd: u32,
 ) -> Tally
     requires { ⌜ WellFormed (now rows) × (ld < darts (now rows)) × (rd < darts (now rows)) × Clean (darts (now rows)) (now marks) (now queue) ⌝ }
-    ensures { λ u. ⌜ (u ≡ firstTally exact (now (rows .entry)) ld rd) × (u .count ≤ 4 + 3 * length (now (rows .entry))) ⌝ }
+    ensures { λ u. ⌜ u ≡ tallyOf exact (now (rows .entry)) ld rd ⌝ }
     ensures { λ u. ⌜ (now (marks .exit) ≡ now (marks .entry)) × (now (queue .exit) ≡ now (queue .entry)) ⌝ }
 {
-    let k = pair_count(rows, marks, queue, exact, ld, rd);
-    let t = Tally {
+    let start = Tally {
         left: ld,
         right: rd,
-        count: 1 + k,
-        l: beta_at(rows, 1, ld),
-        r: beta_at(rows, 0, rd),
+        count: 1,
+        l: ld,
     };
-    tally_leg(rows, marks, queue, exact, 1, 0, ld, t)
-}
-
-// The tally of the first leg with the second, where the face is open.
-pub fn whole_tally(
-    rows: &[u32],
-    marks: &mut [u8],
-    queue: &mut [u32],
-    exact: bool,
-    ld: u32,
-    rd: u32,
-    t: Tally,
-) -> Tally
-    requires { ⌜ WellFormed (now rows) × (ld < darts (now rows)) × (rd < darts (now rows)) × Clean (darts (now rows)) (now marks) (now queue)
-        × (t .count ≤ 20000000) ⌝ }
-    ensures { λ u. ⌜ u ≡ wholeTally exact (now (rows .entry)) ld rd t ⌝ }
-    ensures { λ u. ⌜ (now (marks .exit) ≡ now (marks .entry)) × (now (queue .exit) ≡ now (queue .entry)) ⌝ }
-{
-    if t.l != 0 {
-        return t;
+    let one = note(rows, marks, queue, exact, 1, start, rd);
+    let first = tally_leg(
+        rows,
+        marks,
+        queue,
+        exact,
+        1,
+        0,
+        ld,
+        one,
+        beta_at(rows, 0, rd),
+    );
+    if first.l != 0 {
+        return first;
     }
     let back = Tally {
-        left: t.left,
-        right: t.right,
-        count: t.count,
+        left: first.left,
+        right: first.right,
+        count: first.count,
         l: beta_at(rows, 0, ld),
-        r: beta_at(rows, 1, rd),
     };
-    tally_leg(rows, marks, queue, exact, 0, 1, 0, back)
+    tally_leg(
+        rows,
+        marks,
+        queue,
+        exact,
+        0,
+        1,
+        0,
+        back,
+        beta_at(rows, 1, rd),
+    )
 }

@@ -1,2 +1,5 @@
 -- The one table of document 01's proved examples.
+--   Sews    the lines of the 1- and 2-sews and unsews
+--   Table   the whole table
+pub mod Sews
 pub mod Table

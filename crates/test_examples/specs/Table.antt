@@ -1,9 +1,9 @@
 -- The proved examples ("P") of document 01, all of them, as one table; `proofs/Agree.antt` has the one claim over it.
 --   Shown             what a line shows: an answer, the rows and the plan that a call leaves
---   ofLink, ofFace, ofSew   what a link, a face identifier and an unsew show
+--   ofLink, ofFace, ofSew   what a link, a face identifier, and a sew or unsew show
 --   seen f lines      lines of another crate, as shown by f
 --   faceLines         "open 1 2: face of 2; of 1" is "2; 1", and the maps that tell the walk of `face_id` from its variants
---   table             the lines of links, faces and unsews
+--   table             the lines of links, faces, sews and unsews
 use Prim.Native.Nat.{ℕ}
 use mathlib.Core.List.{List, [], _∷_, _++_}
 use Rattle.map_betas.specs.declared.error.Answer.{Answer}
@@ -14,6 +14,7 @@ use Rattle.cell_steps.specs.declared.cells.Class.the-variants.{Face}
 use Rattle.cell_names.specs.Calls.{idCall}
 use Rattle.sew_ground.specs.Calls.{SewLoans}
 use Rattle.sew_pairs.specs.Examples.{zeros3, zeros4, lines as unsewLines}
+use Rattle.test_examples.specs.Sews.{lines as sewLines}
 
 pub record Shown : Type 0 where
   pub answer : Answer
@@ -62,4 +63,4 @@ faceLines =
     ∷ []
 
 unfoldable pub table : List (Line Shown)
-table = seen ofLink linkLines ++ (faceLines ++ seen ofSew unsewLines)
+table = seen ofLink linkLines ++ (faceLines ++ (seen ofSew sewLines ++ seen ofSew unsewLines))

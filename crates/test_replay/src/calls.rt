@@ -1,12 +1,12 @@
 // The exported calls by their number in the list.
 use crate::records::size;
 use crate::records::word;
-use inkcapper::id_calls;
-use inkcapper::link_calls;
-use inkcapper::list_calls;
-use inkcapper::orbit_calls;
-use inkcapper::read_calls;
-use inkcapper::sew_calls;
+use inkcapper::ids;
+use inkcapper::links;
+use inkcapper::lists;
+use inkcapper::orbits;
+use inkcapper::reads;
+use inkcapper::sews;
 
 // The answer of no call.
 const NONE: u32 = 255;
@@ -46,9 +46,9 @@ pub fn call(
 // Beta reads and free tests.
 fn read(operation: u32, rows: &[u32], a: u32, b: u32, values: &mut [u64; 3]) -> u32 {
     match operation {
-        1 => read_calls::inkcapper_beta(rows, a, b, values),
-        2 => read_calls::inkcapper_is_i_free(rows, a, b, values),
-        3 => read_calls::inkcapper_is_free(rows, a, values),
+        1 => reads::inkcapper_beta(rows, a, b, values),
+        2 => reads::inkcapper_is_i_free(rows, a, b, values),
+        3 => reads::inkcapper_is_free(rows, a, values),
         _ => NONE,
     }
 }
@@ -56,12 +56,12 @@ fn read(operation: u32, rows: &[u32], a: u32, b: u32, values: &mut [u64; 3]) -> 
 // Links and unlinks.
 fn link(operation: u32, rows: &mut [u32], a: u32, b: u32, values: &mut [u64; 3]) -> u32 {
     match operation {
-        4 => link_calls::inkcapper_one_link(rows, a, b, values),
-        5 => link_calls::inkcapper_two_link(rows, a, b, values),
-        6 => link_calls::inkcapper_three_link(rows, a, b, values),
-        7 => link_calls::inkcapper_one_unlink(rows, a, values),
-        8 => link_calls::inkcapper_two_unlink(rows, a, values),
-        9 => link_calls::inkcapper_three_unlink(rows, a, values),
+        4 => links::inkcapper_one_link(rows, a, b, values),
+        5 => links::inkcapper_two_link(rows, a, b, values),
+        6 => links::inkcapper_three_link(rows, a, b, values),
+        7 => links::inkcapper_one_unlink(rows, a, values),
+        8 => links::inkcapper_two_unlink(rows, a, values),
+        9 => links::inkcapper_three_unlink(rows, a, values),
         _ => NONE,
     }
 }
@@ -104,13 +104,13 @@ fn sew(
     if operation == 12 {
         let v = vertices(setting);
         let at = points(setting);
-        return sew_calls::inkcapper_two_sew(rows, &mut m, &mut q, &v, &at, plan, a, b, values);
+        return sews::inkcapper_two_sew(rows, &mut m, &mut q, &v, &at, plan, a, b, values);
     }
     match operation {
-        10 => sew_calls::inkcapper_one_sew(rows, &mut m, &mut q, plan, a, b, values),
-        11 => sew_calls::inkcapper_one_unsew(rows, &mut m, &mut q, plan, a, values),
-        13 => sew_calls::inkcapper_two_unsew(rows, &mut m, &mut q, plan, a, values),
-        14 => sew_calls::inkcapper_three_unsew(rows, &mut m, &mut q, plan, a, values),
+        10 => sews::inkcapper_one_sew(rows, &mut m, &mut q, plan, a, b, values),
+        11 => sews::inkcapper_one_unsew(rows, &mut m, &mut q, plan, a, values),
+        13 => sews::inkcapper_two_unsew(rows, &mut m, &mut q, plan, a, values),
+        14 => sews::inkcapper_three_unsew(rows, &mut m, &mut q, plan, a, values),
         _ => NONE,
     }
 }
@@ -120,10 +120,10 @@ fn identifier(operation: u32, rows: &[u32], d: u32, values: &mut [u64; 3]) -> u3
     let mut marks = [165u8; 8];
     let mut queue = [7u32; 8];
     match operation {
-        15 => id_calls::inkcapper_vertex_id(rows, &mut marks, &mut queue, d, values),
-        16 => id_calls::inkcapper_edge_id(rows, &mut marks, &mut queue, d, values),
-        17 => id_calls::inkcapper_face_id(rows, &mut marks, &mut queue, d, values),
-        18 => id_calls::inkcapper_volume_id(rows, &mut marks, &mut queue, d, values),
+        15 => ids::inkcapper_vertex_id(rows, &mut marks, &mut queue, d, values),
+        16 => ids::inkcapper_edge_id(rows, &mut marks, &mut queue, d, values),
+        17 => ids::inkcapper_face_id(rows, &mut marks, &mut queue, d, values),
+        18 => ids::inkcapper_volume_id(rows, &mut marks, &mut queue, d, values),
         _ => NONE,
     }
 }
@@ -132,13 +132,13 @@ fn identifier(operation: u32, rows: &[u32], d: u32, values: &mut [u64; 3]) -> u3
 fn orbit(operation: u32, rows: &[u32], output: &mut [u32], d: u32, values: &mut [u64; 3]) -> u32 {
     let mut marks = [165u8; 8];
     match operation {
-        19 => orbit_calls::inkcapper_orbit_vertex(rows, &mut marks, output, d, values),
-        20 => orbit_calls::inkcapper_orbit_vertex_linear(rows, &mut marks, output, d, values),
-        21 => orbit_calls::inkcapper_orbit_edge(rows, &mut marks, output, d, values),
-        22 => orbit_calls::inkcapper_orbit_face(rows, &mut marks, output, d, values),
-        23 => orbit_calls::inkcapper_orbit_face_linear(rows, &mut marks, output, d, values),
-        24 => orbit_calls::inkcapper_orbit_volume(rows, &mut marks, output, d, values),
-        25 => orbit_calls::inkcapper_orbit_volume_linear(rows, &mut marks, output, d, values),
+        19 => orbits::inkcapper_orbit_vertex(rows, &mut marks, output, d, values),
+        20 => orbits::inkcapper_orbit_vertex_linear(rows, &mut marks, output, d, values),
+        21 => orbits::inkcapper_orbit_edge(rows, &mut marks, output, d, values),
+        22 => orbits::inkcapper_orbit_face(rows, &mut marks, output, d, values),
+        23 => orbits::inkcapper_orbit_face_linear(rows, &mut marks, output, d, values),
+        24 => orbits::inkcapper_orbit_volume(rows, &mut marks, output, d, values),
+        25 => orbits::inkcapper_orbit_volume_linear(rows, &mut marks, output, d, values),
         _ => NONE,
     }
 }
@@ -150,7 +150,7 @@ fn custom(record: &[u8], rows: &[u32], output: &mut [u32], d: u32, values: &mut 
     if record.len() < end {
         return NONE;
     }
-    orbit_calls::inkcapper_orbit_custom(rows, &mut marks, output, &record[12..end], d, values)
+    orbits::inkcapper_orbit_custom(rows, &mut marks, output, &record[12..end], d, values)
 }
 
 // Lists of cells, no dart unused.
@@ -159,10 +159,10 @@ fn list(operation: u32, rows: &[u32], output: &mut [u32], values: &mut [u64; 3])
     let mut q = [7u32; 8];
     let flags = [0u8; 8];
     match operation {
-        27 => list_calls::inkcapper_list_vertices(rows, &mut m, &mut q, output, &flags, values),
-        28 => list_calls::inkcapper_list_edges(rows, &mut m, &mut q, output, &flags, values),
-        29 => list_calls::inkcapper_list_faces(rows, &mut m, &mut q, output, &flags, values),
-        30 => list_calls::inkcapper_list_volumes(rows, &mut m, &mut q, output, &flags, values),
+        27 => lists::inkcapper_list_vertices(rows, &mut m, &mut q, output, &flags, values),
+        28 => lists::inkcapper_list_edges(rows, &mut m, &mut q, output, &flags, values),
+        29 => lists::inkcapper_list_faces(rows, &mut m, &mut q, output, &flags, values),
+        30 => lists::inkcapper_list_volumes(rows, &mut m, &mut q, output, &flags, values),
         _ => NONE,
     }
 }

@@ -6,7 +6,10 @@ use native.Mathlib.Nat.{le-trans}
 use Rattle.cell_steps.specs.declared.policy.OrbitPolicy.{OrbitPolicy}
 use Rattle.cell_steps.specs.Steps.{stepsBy}
 use Rattle.cell_steps.proofs.ScratchLaws.{scratch-same}
-use Rattle.cell_lists.proofs.PushLaws.{grown-there}
+use Rattle.cell_joins.proofs.PushLaws.{grown-there}
+use Rattle.cell_joins.proofs.VolumeLaws.{not-ended}
+use Rattle.cell_joins.proofs.ArmLaws.{arm-old}
+use lib.Seq.{length-take-le}
 use Rattle.cell_lists.proofs.GrowLaws.{grew-same, entered, grew-flood, grew-edge, grew-forward, grew-again}
 use borrow.Author.Needs.{needs}
 use Rattle.cell_lists.proofs.grow.Statement.{statement}
@@ -57,10 +60,11 @@ alternate-requires-2 c κs =
     let p = at-meet .meet in
     let a = at-alternate .alternate in (
       scratch-same _ (s .args .marks .now) (s .args .queue .now) _ _ (s .pre .0) (a .kept .1 .0 ∙ p .kept .0) (a .kept .1 .1 .0 ∙ p .kept .1 .0),
-      a .ensures .0 .queue,
-      a .ensures .1 .old _ (entered (s .args .rows .now) (s .args .steps .now) _ (s .pre .2) _ _ (s .pre .1 .room) _ _ _ (p .ensures) (at-if1 .if1 .left)),
+      a .ensures .queue,
+      rw (a .ensures .front) (arm-old _ _ _ _ _ (entered (s .args .rows .now) (s .args .steps .now) _ (s .pre .2) _ _ (s .pre .1 .room) _ _ _ (p .ensures)
+          (at-if1 .if1 .left))),
       List·Memᴰ·tail (List·Memᴰ·head refl),
-      a .ensures .1 .old _ (grown-there _ _ _ _ _ _ _ (p .ensures) (s .pre .6)),
+      rw (a .ensures .front) (arm-old _ _ _ _ _ (grown-there _ _ _ _ _ _ _ (p .ensures) (s .pre .6))),
     )
 
 enum-told-2 : tie.Need-enum-told-2
@@ -145,8 +149,9 @@ returns-3 c =
     let a = at-alternate .alternate in
     let b = at-alternate2 .alternate2 in
     let e = ap (λ (w : OrbitPolicy). stepsBy w (s .args .steps .now)) (sym (at-enum-told .enum-told .given .1)) ∙ s .pre .4 in
-    grew-edge _ _ _ (s .pre .2) _ _ (s .pre .1 .room) _ _ _ (at-meet .meet .ensures) (at-if1 .if1 .left) (s .pre .5) e _ _ _ (a .ensures .0)
-    (a .ensures .1) _ _ _ (b .ensures .0) (b .ensures .1)
+    grew-edge _ _ _ (s .pre .2) _ _ (s .pre .1 .room) _ _ _ (at-meet .meet .ensures) (at-if1 .if1 .left) (s .pre .5) e (s .pre .0 .formed)
+    (s .args .marks .now) (s .pre .0 .marks-n) (at-meet .meet .kept .0) (grown-there _ _ _ _ _ _ _ (at-meet .meet .ensures) (s .pre .6)) _ _ _
+    (a .kept .1 .0) (a .ensures) _ _ _ (b .ensures)
 
 same-length-7 : tie.Need-same-length-7
 same-length-7 c = search needs
@@ -165,7 +170,8 @@ returns-4 c =
     let t = at-flood-forward .flood-forward in
     let e = ap (λ (w : OrbitPolicy). stepsBy w (s .args .steps .now)) (sym (at-enum-told2 .enum-told2 .given .1)) ∙ s .pre .4 in
     grew-forward _ _ _ (s .pre .2) _ _ (s .pre .1 .room) _ _ _ (at-meet .meet .ensures) (at-if1 .if1 .left) (s .pre .5) (s .pre .0 .formed .below)
-    (s .pre .3) _ (s .pre .0 .marks-n) (s .pre .1) (s .pre .0 .formed) e _ _ _ (t .ensures .0) (t .ensures .1 (c .if2 .left))
+    (s .pre .3) _ (s .pre .0 .marks-n) (s .pre .1) (s .pre .0 .formed) e _ _ _ (t .ensures .0)
+    (not-ended _ _ _ _ (length-take-le _ _ (t .ensures .0 .queue .room)) (sym (t .ensures .1) ∙ c .if2 .left))
 
 same-length-9 : tie.Need-same-length-9
 same-length-9 c = search needs

@@ -26,12 +26,10 @@ passed c =
     let at-is-done = c .before in
     sym (at-is-done .is-done .ensures) ∙ not-false _ (c .if1 .left)
 
-tested : (c : tie.After-custom-test) → c .custom-test .result
-    ≡ andThen (orbitGuard (c .before .before .before .before .before .before .before .before .before .args .rows .now)
-    (c .before .before .before .before .before .before .before .before .before .args .marks .now)
-    (c .before .before .before .before .before .before .before .before .before .args .output .now)
-    (c .before .before .before .before .before .before .before .before .before .args .d)) (customTest
-    (c .before .before .before .before .before .before .before .before .before .args .betas .now))
+tested : (c : tie.After-custom-test) →
+    let entry = c .before .before .before .before .before .before .before .before .before in
+    c .custom-test .result ≡ andThen (orbitGuard (entry .args .rows .now) (entry .args .marks .now) (entry .args .output .now) (entry .args .d))
+    (customTest (entry .args .betas .now))
 tested c =
     let at-if1 = c .before in
     let at-guard = at-if1 .before .before in

@@ -27,14 +27,14 @@ on-right c =
     rw (c .beta-at2 .ensures) (entry .pre .0 .below _ _)
 
 -- how it ends
-ends : (c : tie.After-walk-leg) → legOut (c .walk-leg .result) (c .walk-leg .last .0)
-    ≡ legBack (c .before .before .before .before .before .before .before .args .un) (c .before .before .before .before .before .before .before .args
-    .rows .now) (c .before .before .before .before .before .before .before .args .ld) (c .before .before .before .before .before .before .before .args .rd)
+ends : (c : tie.After-walk-leg) →
+    let entry = c .before .before .before .before .before .before .before in
+    legOut (c .walk-leg .result) (c .walk-leg .last .0) ≡ legBack (entry .args .parting) (entry .args .rows .now) (entry .args .ld) (entry .args .rd)
 ends c =
     let at-beta-at = c .before .before .before .before in
     leg-start _ _ _ _ _ _ _ _ _ _ _ _ (at-beta-at .beta-at .ensures) (c .before .before .beta-at2 .ensures) (c .walk-leg .ensures)
 
-goes : (c : tie.After-walk-leg) → Walked (c .before .before .before .before .before .before .before .args .un)
+goes : (c : tie.After-walk-leg) → Walked (c .before .before .before .before .before .before .before .args .parting)
     (c .before .before .before .before .before .before .before .args .rows .now) 0 1 (c .before .before .before .before .beta-at .result)
     (c .before .before .beta-at2 .result) 0 (legOut (c .walk-leg .result) (c .walk-leg .last .0))
 goes c =
@@ -43,8 +43,9 @@ goes c =
     (on-right (c .before .before))
 
 -- the second leg is undone
-again : (c : tie.After-undo-leg) → c .undo-leg .last .0 ≡ c .before .before .before .before .before .before .before .before .before .before .before
-    .before .before .args .rows .now
+again : (c : tie.After-undo-leg) →
+    let entry = c .before .before .before .before .before .before .before .before .before .before .before .before .before in
+    c .undo-leg .last .0 ≡ entry .args .rows .now
 again c =
     let at-walk-leg = c .before .before .before .before .before .before in
     let back8 = at-walk-leg .before .before in
@@ -93,11 +94,11 @@ returns c =
     let back12 = at-is-done .before .before .before in
     let entry = back12 .before .before .before .before .before .before .before in
     last-refused _ _ _ _ _ (ends back12) _ (sym (at-is-done .is-done .ensures) ∙ not-true _ (at-if1 .if1 .taken))
-    (c .before .before .undo-leg2 .ensures ∙ ap (λ (x : List ℕ). undone (entry .args .un) (entry .args .steps) x 1 0 (entry .args .ld)
+    (c .before .before .undo-leg2 .ensures ∙ ap (λ (x : List ℕ). undone (entry .args .parting) (entry .args .steps) x 1 0 (entry .args .ld)
     (entry .args .rd)) (again back6))
 
-pick-requires : tie.Need-pick-requires
-pick-requires c κs = search needs
+former-requires : tie.Need-former-requires
+former-requires c κs = search needs
 
 same-length-2 : tie.Need-same-length-2
 same-length-2 c = search needs
@@ -105,7 +106,7 @@ same-length-2 c = search needs
 returns-2 : tie.Need-returns-2
 returns-2 c =
     let back5 = c .before .before .before .before .before in
-    last-done _ _ _ _ _ (ends back5) _ (c .pick .ensures) (sym (c .before .before .is-done .ensures) ∙ not-false _ (c .before .if1 .left))
+    last-done _ _ _ _ _ (ends back5) _ (c .former .ensures) (sym (c .before .before .is-done .ensures) ∙ not-false _ (c .before .if1 .left))
 
 pub back-spec : {M : Type 1} → statement M
 back-spec =
@@ -119,6 +120,6 @@ back-spec =
     undo-leg-requires-2
     same-length
     returns
-    pick-requires
+    former-requires
     same-length-2
     returns-2)

@@ -13,7 +13,7 @@ use Rattle.map_betas.specs.Answers.{isDone}
 use Rattle.link_walk.specs.Three.{legOn, legBack, lastLeg}
 use Rattle.link_walk.specs.Undo.{undone, Inside}
 use Rattle.link_walk.specs.Walk.{legOut}
-use Rattle.link_walk.proofs.StepLaws.{Changed, step-done, step-kept, left-le}
+use Rattle.link_walk.proofs.StepLaws.{Changed, step-done, step-kept, changeable-le}
 use Rattle.link_walk.proofs.UndoLaws.{Walked, turn}
 use Rattle.link_walk.proofs.ThreeLaws.{inside-now, leg-start, leg-walked, on-refused, on-leg-refused, on-closed, on-uneven, on-back, on-undone}
 use Rattle.link_three.proofs.three.three_on.Statement.{statement}
@@ -22,7 +22,7 @@ use Rattle.link_three.proofs.three.three_on.Statement.{statement}
 done : (c : tie.Else1) → isDone (c .before .before .before .before .step .result) ≡ true
 done c = sym (c .before .is-done .ensures) ∙ not-false _ (c .if1 .left)
 
-changed : (c : tie.Else1) → Changed (c .before .before .before .before .before .before .before .args .un)
+changed : (c : tie.Else1) → Changed (c .before .before .before .before .before .before .before .args .parting)
     (c .before .before .before .before .before .before .before .args .rows .now) (c .before .before .before .before .before .before .before .args .ld)
     (c .before .before .before .before .before .before .before .args .rd) (c .before .before .before .before .step .last .0)
 changed c =
@@ -37,49 +37,53 @@ formed c =
     turn _ _ _ _ _ _ _ _ (entry .pre .0) (entry .pre .2) (entry .pre .3) (omega (arith, entry .pre .1)) (at-step .step .ensures) (done c) .0
 
 -- where the first leg starts
-on-left : (c : tie.After-beta-at2) → c .before .before .beta-at .result < darts (c .before .before .before .before .before .before .before .before
-    .step .last .0)
+on-left : (c : tie.After-beta-at2) →
+    let at-step = c .before .before .before .before .before .before .before .before in
+    c .before .before .beta-at .result < darts (at-step .step .last .0)
 on-left c =
     let back4 = c .before .before .before .before in
     rw (c .before .before .beta-at .ensures) (formed back4 .below _ _)
 
-on-right : (c : tie.After-beta-at2) → c .beta-at2 .result < darts (c .before .before .before .before .before .before .before .before .step .last .0)
+on-right : (c : tie.After-beta-at2) →
+    let at-step = c .before .before .before .before .before .before .before .before in
+    c .beta-at2 .result < darts (at-step .step .last .0)
 on-right c =
     let back4 = c .before .before .before .before in
     rw (c .beta-at2 .ensures) (formed back4 .below _ _)
 
 -- how it ends
-ends : (c : tie.After-walk-leg) → legOut (c .walk-leg .result) (c .walk-leg .last .0)
-    ≡ legOn (c .before .before .before .before .before .before .before .before .before .before .before .before .before .args .un)
-    (c .before .before .before .before .before .before .before .before .before .before .step .last .0)
-    (c .before .before .before .before .before .before .before .before .before .before .before .before .before .args .ld)
-    (c .before .before .before .before .before .before .before .before .before .before .before .before .before .args .rd)
+ends : (c : tie.After-walk-leg) →
+    let at-step = c .before .before .before .before .before .before .before .before .before .before in
+    let entry = at-step .before .before .before in
+    legOut (c .walk-leg .result) (c .walk-leg .last .0) ≡ legOn (entry .args .parting) (at-step .step .last .0) (entry .args .ld) (entry .args .rd)
 ends c =
     let at-beta-at = c .before .before .before .before in
     leg-start _ _ _ _ _ _ _ _ _ _ _ _ (at-beta-at .beta-at .ensures) (c .before .before .beta-at2 .ensures) (c .walk-leg .ensures)
 
-goes : (c : tie.After-walk-leg) → Walked (c .before .before .before .before .before .before .before .before .before .before .before .before .before
-    .args .un) (c .before .before .before .before .before .before .before .before .before .before .step .last .0) 1 0
-    (c .before .before .before .before .beta-at .result) (c .before .before .beta-at2 .result) 0 (legOut (c .walk-leg .result) (c .walk-leg .last .0))
+goes : (c : tie.After-walk-leg) →
+    let at-step = c .before .before .before .before .before .before .before .before .before .before in
+    let entry = at-step .before .before .before in
+    Walked (entry .args .parting) (at-step .step .last .0) 1 0 (c .before .before .before .before .beta-at .result)
+    (c .before .before .beta-at2 .result) 0 (legOut (c .walk-leg .result) (c .walk-leg .last .0))
 goes c =
     let back6 = c .before .before .before .before .before .before in
     leg-walked _ _ _ _ _ _ _ _ _ _ _ _ (c .walk-leg .ensures) (omega arith) (omega arith) (formed back6) (on-left (c .before .before))
     (on-right (c .before .before))
 
-ready : (c : tie.After-walk-leg) → Inside (darts (c .walk-leg .last .0)) (c .walk-leg .last .0)
-    × (c .before .before .before .before .before .before .before .before .before .before .before .before .before .args .ld < darts
-    (c .walk-leg .last .0)) × (c .before .before .before .before .before .before .before .before .before .before .before .before .before .args .rd <
-    darts (c .walk-leg .last .0))
+ready : (c : tie.After-walk-leg) →
+    let entry = c .before .before .before .before .before .before .before .before .before .before .before .before .before in
+    Inside (darts (c .walk-leg .last .0)) (c .walk-leg .last .0) × (entry .args .ld < darts (c .walk-leg .last .0)) × (entry .args .rd < darts
+    (c .walk-leg .last .0))
 ready c =
     let at-step = c .before .before .before .before .before .before .before .before .before .before in
     let entry = at-step .before .before .before in
     inside-now (entry .args .rows .now) _ _ _ (goes c .long ∙ at-step .step .kept .0) (goes c .formed) (entry .pre .2) (entry .pre .3)
 
 -- the first leg is undone
-again : (c : tie.After-walk-leg) → undone (c .before .before .before .before .before .before .before .before .before .before .before .before .before
-    .args .un) (c .walk-leg .result .steps + 1) (c .walk-leg .last .0) 1 0 (c .before .before .before .before .before .before .before .before .before
-    .before .before .before .before .args .ld) (c .before .before .before .before .before .before .before .before .before .before .before .before
-    .before .args .rd) ≡ c .before .before .before .before .before .before .before .before .before .before .before .before .before .args .rows .now
+again : (c : tie.After-walk-leg) →
+    let entry = c .before .before .before .before .before .before .before .before .before .before .before .before .before in
+    undone (entry .args .parting) (c .walk-leg .result .steps + 1) (c .walk-leg .last .0) 1 0 (entry .args .ld) (entry .args .rd) ≡
+    entry .args .rows .now
 again c =
     let back6 = c .before .before .before .before .before .before in
     let entry = back6 .before .before .before .before .before .before .before in
@@ -123,7 +127,7 @@ add-steps c =
     let at-step = back9 .before .before .before .before in
     let entry = at-step .before .before .before in
     let g = goes (c .before .before .before) in
-    omega (arith, g .steps, g .fell, left-le (entry .args .un) (at-step .step .last .0), formed back9 .sized .whole, formed back9 .sized .few)
+    omega (arith, g .steps, g .fell, changeable-le (entry .args .parting) (at-step .step .last .0), formed back9 .sized .whole, formed back9 .sized .few)
 
 is-done-requires-2 : tie.Need-is-done-requires-2
 is-done-requires-2 c κs = search needs
@@ -151,8 +155,8 @@ returns-2 c =
     (sym (at-is-done2 .is-done2 .ensures) ∙ not-true _ (at-if2 .if2 .taken))
     (c .before .before .undo-leg .ensures ∙ again back9)
 
-pick-requires : tie.Need-pick-requires
-pick-requires c κs = search needs
+former-requires : tie.Need-former-requires
+former-requires c κs = search needs
 
 same-length-3 : tie.Need-same-length-3
 same-length-3 c =
@@ -166,7 +170,7 @@ returns-3 c =
     let back8 = at-is-done2 .before .before .before .before in
     let back14 = back8 .before .before .before .before .before .before in
     let at-step = back14 .before .before .before .before in
-    on-closed _ _ _ _ _ _ _ _ (at-step .step .ensures) (done back14) _ _ (ends back8) _ (c .pick .ensures)
+    on-closed _ _ _ _ _ _ _ _ (at-step .step .ensures) (done back14) _ _ (ends back8) _ (c .former .ensures)
     (sym (at-is-done2 .is-done2 .ensures) ∙ not-false _ (c .before .before .before .if2 .left)) (c .before .if3 .taken)
 
 undo-leg-requires-2 : tie.Need-undo-leg-requires-2
@@ -217,7 +221,7 @@ returns-5 c =
     let at-step = back19 .before .before .before .before in
     let entry = at-step .before .before .before in
     c .before .before .back .ensures
-    ∙ ap (λ (x : List ℕ). lastLeg (cond (entry .args .un) (entry .args .rd) 0) x (legBack (entry .args .un) (at-walk-leg .walk-leg .last .0)
+    ∙ ap (λ (x : List ℕ). lastLeg (cond (entry .args .parting) (entry .args .rd) 0) x (legBack (entry .args .parting) (at-walk-leg .walk-leg .last .0)
     (entry .args .ld) (entry .args .rd))) (again at-walk-leg)
     ∙ on-back _ _ _ _ _ _ _ _ (at-step .step .ensures) (done back19) _ _ (ends at-walk-leg)
     (sym (at-is-done2 .is-done2 .ensures) ∙ not-false _ (at-if2 .if2 .left)) (at-if3 .if3 .left) (at-if4 .if4 .left)
@@ -238,7 +242,7 @@ three-on-spec =
     undo-leg-requires
     same-length-2
     returns-2
-    pick-requires
+    former-requires
     same-length-3
     returns-3
     undo-leg-requires-2

@@ -9,23 +9,24 @@ use borrow.Author.Tests.{not-true, not-false}
 use Rattle.map_betas.specs.Betas.{darts}
 use Rattle.map_betas.specs.Maps.{WellFormed}
 use Rattle.link_walk.specs.Walk.{stepOf, walk}
-use Rattle.link_walk.proofs.StepLaws.{left, left-le}
+use Rattle.link_walk.proofs.StepLaws.{changeable, changeable-le}
 use Rattle.link_walk.proofs.WalkLaws.{leg-same, walk-null, walk-stop, walk-refuse, walk-next}
 use Rattle.link_walk.proofs.UndoLaws.{turn}
 use Rattle.link_walk.proofs.walk.walk_leg.Statement.{statement}
 use Rattle.link_walk.proofs.walk.walk_leg.Tie as tie
 
 abbrev Inv-loop : tie.InvT-loop
-Inv-loop rows₀ un i j stop ld rd l0 r0 l₀ r₀ steps₀ rows l r steps =
-    WellFormed rows × (length rows ≡ length rows₀) × (l < darts rows) × (r < darts rows) × (steps + left un rows ≤ length rows₀)
-    × ((f : ℕ) × (left un rows < f) × (walk (stepOf un ld rd) f rows i j stop l r steps ≡ walk (stepOf un ld rd) (suc (length rows₀)) rows₀ i j stop l0 r0 0))
+Inv-loop rows₀ parting i j stop ld rd l0 r0 l₀ r₀ steps₀ rows l r steps =
+    WellFormed rows × (length rows ≡ length rows₀) × (l < darts rows) × (r < darts rows) × (steps + changeable parting rows ≤ length rows₀)
+    × ((f : ℕ) × (changeable parting rows < f) × (walk (stepOf parting ld rd) f rows i j stop l r steps
+    ≡ walk (stepOf parting ld rd) (suc (length rows₀)) rows₀ i j stop l0 r0 0))
 
 abbrev μ-loop : tie.MeasureT-loop
-μ-loop rows₀ un i j stop ld rd l0 r0 l₀ r₀ steps₀ rows l r steps = left un rows
+μ-loop rows₀ parting i j stop ld rd l0 r0 l₀ r₀ steps₀ rows l r steps = changeable parting rows
 
 loop-holds : tie.Need-loop-holds Inv-loop μ-loop
 loop-holds c =
-    let z = left-le (c .before .args .un) (c .before .args .rows .now) in
+    let z = changeable-le (c .before .args .parting) (c .before .args .rows .now) in
     (c .before .pre .0, refl, c .before .pre .3, c .before .pre .4, omega arith, (suc (length (c .before .args .rows .now)), omega arith, refl))
 
 leg-at-requires : tie.Need-leg-at-requires Inv-loop μ-loop

@@ -12,7 +12,9 @@ use borrow.Author.Needs.{needs}
 use Rattle.report_whole.proofs.report.report_text.Statement.{statement}
 use Rattle.report_whole.proofs.report.report_text.Tie as tie
 
-passed : (c : tie.Else2) → isDone (c .before .before .before .before .before .before .before .before .before .before .read-within .result) ≡ true
+passed : (c : tie.Else2) →
+    let at-read-within = c .before .before .before .before .before .before .before .before .before .before in
+    isDone (at-read-within .read-within .result) ≡ true
 passed c = sym (c .before .is-done .ensures) ∙ not-false _ (c .if2 .left)
 
 got : (c : tie.Else2) →

@@ -11,8 +11,9 @@ use Rattle.sew_one.proofs.one.one_unsew_on.Statement.{statement}
 use Rattle.sew_one.proofs.one.one_unsew_on.Tie as tie
 
 -- the dart that was answered
-answered : (c : tie.After-dart-of) → c .dart-of .result ≡ beta (c .before .before .before .before .before .before .before .before .before .before
-    .before .args .rows .now) 1 (c .before .before .before .before .before .before .before .before .before .before .before .args .ld)
+answered : (c : tie.After-dart-of) →
+    let entry = c .before .before .before .before .before .before .before .before .before .before .before in
+    c .dart-of .result ≡ beta (entry .args .rows .now) 1 (entry .args .ld)
 answered c =
     let at-one-unlinks = c .before .before .before .before .before in
     let entry = at-one-unlinks .before .before .before .before .before .before in

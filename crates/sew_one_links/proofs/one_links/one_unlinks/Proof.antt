@@ -9,8 +9,9 @@ use Rattle.sew_one_links.proofs.one_links.one_unlinks.Statement.{statem
 use Rattle.sew_one_links.proofs.one_links.one_unlinks.Tie as tie
 
 -- the dart that was answered
-answered : (c : tie.After-dart-of) → c .dart-of .result ≡ beta (c .before .before .before .before .before .before .before .before .args .rows .now) 1
-    (c .before .before .before .before .before .before .before .before .args .ld)
+answered : (c : tie.After-dart-of) →
+    let entry = c .before .before .before .before .before .before .before .before in
+    c .dart-of .result ≡ beta (entry .args .rows .now) 1 (entry .args .ld)
 answered c =
     let at-unlink-core = c .before .before .before .before .before in
     let entry = at-unlink-core .before .before .before in

@@ -1,44 +1,36 @@
 -- `settling::settle_splits` meets its contract: a tally bounds the entries, which are written where there is room. Assumes nothing.
 use native.Mathlib.Omega.{arith}
 use mathlib.Core.Path.{ap, _∙_}
+use lib.Dec.{eqb}
 use lib.ListN.{length}
+use Rattle.sew_plan.specs.declared.Entry.{Entry}
+use mathlib.Core.List.{List}
+use Prim.Native.Nat.{ℕ}
 use Rattle.sew_ground.proofs.SewnLaws.{settles-tight}
 use Rattle.sew_ground.proofs.SideLaws.{clean-same}
-use Rattle.sew_pairs.proofs.SplitLaws.{written-done, entries-are, entries-most}
+use Rattle.sew_pairs.proofs.SplitLaws.{written-done}
+use Rattle.sew_tallies.proofs.TallyLaws.{entries-are, entries-most, end-tells}
 use borrow.Author.Needs.{needs}
 use Rattle.sew_settling.proofs.settling.settle_splits.Statement.{statement}
 use Rattle.sew_settling.proofs.settling.settle_splits.Tie as tie
 
-first-tally-requires : tie.Need-first-tally-requires
-first-tally-requires c κs =
+tally-pairs-requires : tie.Need-tally-pairs-requires
+tally-pairs-requires c κs =
     let entry = c .before .before .before .before .before .before in
     (entry .pre .0, entry .pre .1, entry .pre .2, entry .pre .3)
-
-whole-tally-requires : tie.Need-whole-tally-requires
-whole-tally-requires c κs =
-    let at-first-tally = c .before .before .before .before .before .before in
-    let entry = at-first-tally .before .before .before .before .before .before .before in (
-      entry .pre .0,
-      entry .pre .1,
-      entry .pre .2,
-      clean-same _ _ _ _ _ (entry .pre .3) (at-first-tally .first-tally .ensures .1 .0) (at-first-tally .first-tally .ensures .1 .1),
-      omega (arith, at-first-tally .first-tally .ensures .0 .1, entry .pre .0 .sized .whole, entry .pre .0 .sized .few),
-    )
 
 room-requires : tie.Need-room-requires
 room-requires c κs = search needs
 
 wanted-requires : tie.Need-wanted-requires
 wanted-requires c κs =
-    let at-whole-tally = c .before .before .before .before .before .before .before .before in
-    let at-first-tally = at-whole-tally .before .before .before .before .before .before .before in
-    let entry = at-first-tally .before .before .before .before .before .before .before in (
+    let at-tally-pairs = c .before .before .before .before .before .before .before .before in
+    let entry = at-tally-pairs .before .before .before .before .before .before .before in (
       entry .pre .0,
       entry .pre .1,
       entry .pre .2,
-      clean-same _ _ _ _ _ (entry .pre .3) (at-whole-tally .whole-tally .ensures .1 .0 ∙ at-first-tally .first-tally .ensures .1 .0)
-          (at-whole-tally .whole-tally .ensures .1 .1 ∙ at-first-tally .first-tally .ensures .1 .1),
-      entries-most _ _ _ _ _ _ (at-first-tally .first-tally .ensures .0 .0) (at-whole-tally .whole-tally .ensures .0),
+      clean-same _ _ _ _ _ (entry .pre .3) (at-tally-pairs .tally-pairs .ensures .1 .0) (at-tally-pairs .tally-pairs .ensures .1 .1),
+      entries-most _ _ _ _ _ (at-tally-pairs .tally-pairs .ensures .0),
     )
 
 same-length : tie.Need-same-length
@@ -54,14 +46,12 @@ returns : tie.Need-returns
 returns c =
     let at-wanted = c .before .before .before .before .before in
     let at-room = at-wanted .before .before .before in
-    let at-whole-tally = at-room .before .before .before .before .before .before in
-    let at-first-tally = at-whole-tally .before .before .before .before .before .before .before in (
+    let at-tally-pairs = at-room .before .before .before .before .before .before in (
       settles-tight _ _ _ _ (at-wanted .wanted .ensures .0 .1 (omega (arith, c .if1 .taken))) (omega (arith, c .if1 .taken, at-room .room .ensures)),
       (
-        at-wanted .wanted .ensures .1 .0 ∙ at-whole-tally .whole-tally .ensures .1 .0
-            ∙ at-first-tally .first-tally .ensures .1 .0,
-        at-wanted .wanted .ensures .1 .1 ∙ at-whole-tally .whole-tally .ensures .1 .1
-            ∙ at-first-tally .first-tally .ensures .1 .1,
+        at-wanted .wanted .ensures .1 .0 ∙ at-tally-pairs .tally-pairs .ensures .1 .0,
+        at-wanted .wanted .ensures .1 .1 ∙
+            at-tally-pairs .tally-pairs .ensures .1 .1,
       ),
     )
 
@@ -70,42 +60,36 @@ write-splits-requires c κs =
     let at-if1 = c .before .before .before .before in
     let at-wanted = at-if1 .before .before .before .before .before in
     let at-room = at-wanted .before .before .before in
-    let at-whole-tally = at-room .before .before .before .before .before .before in
-    let at-first-tally = at-whole-tally .before .before .before .before .before .before .before in
-    let entry = at-first-tally .before .before .before .before .before .before .before in (
+    let at-tally-pairs = at-room .before .before .before .before .before .before in
+    let entry = at-tally-pairs .before .before .before .before .before .before .before in (
       entry .pre .0,
       entry .pre .1,
       entry .pre .2,
-      clean-same _ _ _ _ _ (entry .pre .3) (at-wanted .wanted .ensures .1 .0 ∙ at-whole-tally .whole-tally .ensures .1 .0
-          ∙ at-first-tally .first-tally .ensures .1 .0) (at-wanted .wanted .ensures .1 .1 ∙ at-whole-tally .whole-tally .ensures .1 .1
-          ∙ at-first-tally .first-tally .ensures .1 .1),
+      clean-same _ _ _ _ _ (entry .pre .3) (at-wanted .wanted .ensures .1 .0 ∙ at-tally-pairs .tally-pairs .ensures .1 .0)
+          (at-wanted .wanted .ensures .1 .1 ∙ at-tally-pairs .tally-pairs .ensures .1 .1),
       omega (
         arith,
         at-if1 .if1 .left,
         at-room .room .ensures,
         at-wanted .wanted .ensures .0 .0,
-        ap (λ x. length x)
-            (entries-are _ _ _ _ _ _ (at-first-tally .first-tally .ensures .0 .0) (at-whole-tally .whole-tally .ensures .0)),
+        ap (λ (es : List Entry). length es) (entries-are _ _ _ _ _ (at-tally-pairs .tally-pairs .ensures .0)),
       ),
+      ap (λ (d : ℕ). eqb d 0) (end-tells _ _ _ _ _ (at-tally-pairs .tally-pairs .ensures .0)),
     )
 
 same-length-4 : tie.Need-same-length-4
 same-length-4 c =
     let at-write-splits = c .before .before .before .before .before .before in
     let at-wanted = at-write-splits .before .before .before .before .before .before .before .before .before .before in
-    let at-whole-tally = at-wanted .before .before .before .before .before .before .before .before .before in
-    let at-first-tally = at-whole-tally .before .before .before .before .before .before .before in
-    ap length (at-write-splits .write-splits .ensures .1 .0 ∙ at-wanted .wanted .ensures .1 .0 ∙ at-whole-tally .whole-tally .ensures .1 .0
-    ∙ at-first-tally .first-tally .ensures .1 .0)
+    let at-tally-pairs = at-wanted .before .before .before .before .before .before .before .before .before in
+    ap length (at-write-splits .write-splits .ensures .1 .0 ∙ at-wanted .wanted .ensures .1 .0 ∙ at-tally-pairs .tally-pairs .ensures .1 .0)
 
 same-length-5 : tie.Need-same-length-5
 same-length-5 c =
     let at-write-splits = c .before .before .before .before .before .before in
     let at-wanted = at-write-splits .before .before .before .before .before .before .before .before .before .before in
-    let at-whole-tally = at-wanted .before .before .before .before .before .before .before .before .before in
-    let at-first-tally = at-whole-tally .before .before .before .before .before .before .before in
-    ap length (at-write-splits .write-splits .ensures .1 .1 ∙ at-wanted .wanted .ensures .1 .1 ∙ at-whole-tally .whole-tally .ensures .1 .1
-    ∙ at-first-tally .first-tally .ensures .1 .1)
+    let at-tally-pairs = at-wanted .before .before .before .before .before .before .before .before .before in
+    ap length (at-write-splits .write-splits .ensures .1 .1 ∙ at-wanted .wanted .ensures .1 .1 ∙ at-tally-pairs .tally-pairs .ensures .1 .1)
 
 same-length-6 : tie.Need-same-length-6
 same-length-6 c =
@@ -118,16 +102,13 @@ returns-2 c =
     let at-if1 = at-write-splits .before .before .before .before .before in
     let at-wanted = at-if1 .before .before .before .before .before in
     let at-room = at-wanted .before .before .before in
-    let at-whole-tally = at-room .before .before .before .before .before .before in
-    let at-first-tally = at-whole-tally .before .before .before .before .before .before .before in (
-      written-done _ _ _ _ _ _ _ (entries-are _ _ _ _ _ _ (at-first-tally .first-tally .ensures .0 .0) (at-whole-tally .whole-tally .ensures .0))
-          (at-write-splits .write-splits .ensures .0 .0) (at-write-splits .write-splits .ensures .0 .1) (at-wanted .wanted .ensures .0 .0)
-          (omega (arith, at-if1 .if1 .left, at-room .room .ensures)),
+    let at-tally-pairs = at-room .before .before .before .before .before .before in (
+      written-done _ _ _ _ _ _ _ (entries-are _ _ _ _ _ (at-tally-pairs .tally-pairs .ensures .0)) (at-write-splits .write-splits .ensures .0 .0)
+          (at-write-splits .write-splits .ensures .0 .1)
+          (at-wanted .wanted .ensures .0 .0) (omega (arith, at-if1 .if1 .left, at-room .room .ensures)),
       (
-        at-write-splits .write-splits .ensures .1 .0 ∙ at-wanted .wanted .ensures .1 .0 ∙ at-whole-tally .whole-tally .ensures .1 .0
-            ∙ at-first-tally .first-tally .ensures .1 .0,
-        at-write-splits .write-splits .ensures .1 .1 ∙ at-wanted .wanted .ensures .1 .1
-            ∙ at-whole-tally .whole-tally .ensures .1 .1 ∙ at-first-tally .first-tally .ensures .1 .1,
+        at-write-splits .write-splits .ensures .1 .0 ∙ at-wanted .wanted .ensures .1 .0 ∙ at-tally-pairs .tally-pairs .ensures .1 .0,
+        at-write-splits .write-splits .ensures .1 .1 ∙ at-wanted .wanted .ensures .1 .1 ∙ at-tally-pairs .tally-pairs .ensures .1 .1,
       ),
     )
 
@@ -135,8 +116,7 @@ pub settle-splits-spec : {M : Type 1} → statement M
 settle-splits-spec =
     tie.close
     (tie.spec
-    first-tally-requires
-    whole-tally-requires
+    tally-pairs-requires
     room-requires
     wanted-requires
     same-length

@@ -1,15 +1,20 @@
--- `splits::write_back` meets its contract. Assumes nothing.
+-- `splits::write_back` meets its contract: of an open face the second leg. Assumes nothing.
 use native.Mathlib.Omega.{arith}
 use mathlib.Core.Path.{refl, ap}
 use lib.ListN.{length}
 use borrow.Author.Tests.{not-true, not-false}
-use Rattle.sew_pairs.proofs.SplitLaws.{back-none, back-some, back-written}
+use Rattle.sew_pairs.specs.Pairs.{Pairs, entriesOf}
+use Rattle.sew_pairs.proofs.LegLaws.{leg-ends}
+use Rattle.sew_pairs.proofs.SplitLaws.{back-none, back-some, open-null, pairs-same}
+use Rattle.sew_pairs.proofs.Ends.{back-over}
 use borrow.Author.Needs.{needs}
 use Rattle.sew_splits.proofs.splits.write_back.Statement.{statement}
 use Rattle.sew_splits.proofs.splits.write_back.Tie as tie
 
 returns : tie.Need-returns
-returns c = (back-none _ _ _ _ _ _ (not-true _ (c .if1 .taken)), (refl, refl))
+returns c =
+    let entry = c .before .before .before .before .before in
+    (leg-ends _ _ _ _ _ _ (back-none _ _ _ _ (entry .pre .5) (not-true _ (c .if1 .taken))) refl refl, (refl, refl))
 
 beta-at-requires : tie.Need-beta-at-requires
 beta-at-requires c κs = search needs
@@ -19,22 +24,25 @@ beta-at-requires-2 c κs = search needs
 
 write-leg-requires : tie.Need-write-leg-requires
 write-leg-requires c κs =
-    let at-beta-at = c .before .before .before .before in
+    let at-beta-at2 = c .before .before .before in
+    let at-beta-at = at-beta-at2 .before in
     let at-if1 = at-beta-at .before in
     let entry = at-if1 .before .before .before .before .before in (
       entry .pre .0,
       omega arith,
       omega arith,
       rw (at-beta-at .beta-at .ensures) (entry .pre .0 .below _ _),
-      rw (c .before .before .before .beta-at2 .ensures) (entry .pre .0 .below _ _),
+      rw (at-beta-at2 .beta-at2 .ensures) (entry .pre .0 .below _ _),
       entry .pre .3,
       omega (
         arith,
         entry .pre .4,
-        ap (λ x. length x) (back-some (entry .args .rows .now) (entry .args .ld) (entry .args .rd) (entry .args .opened)
-            (at-beta-at .beta-at .result) (c .before .before .before .beta-at2 .result) (not-false _ (at-if1 .if1 .left)) (at-beta-at .beta-at .ensures)
-            (c .before .before .before .beta-at2 .ensures)),
+        ap (λ (ps : Pairs). length (entriesOf (entry .args .rows .now) ps))
+            (back-some (entry .args .rows .now) (entry .args .ld) (entry .args .rd) (entry .args .opened) (entry .pre .5) _ _ (not-false _ (at-if1 .if1 .left))
+            (at-beta-at .beta-at .ensures) (at-beta-at2 .beta-at2 .ensures)),
       ),
+      rw (at-beta-at .beta-at .ensures) (back-over (entry .args .rows .now) (entry .pre .0) (entry .args .ld) (entry .pre .1)
+          (open-null (entry .args .rows .now) (entry .args .ld) (entry .args .rd) (entry .args .opened) (entry .pre .5) (not-false _ (at-if1 .if1 .left)))),
     )
 
 same-length : tie.Need-same-length
@@ -51,8 +59,10 @@ returns-2 c =
     let at-write-leg = c .before .before .before .before .before .before in
     let at-beta-at2 = at-write-leg .before .before .before .before in
     let at-beta-at = at-beta-at2 .before in
-    let at-if1 = at-beta-at .before in (
-      back-written _ _ _ _ _ _ _ _ _ _ (not-false _ (at-if1 .if1 .left)) (at-beta-at .beta-at .ensures) (at-beta-at2 .beta-at2 .ensures)
+    let at-if1 = at-beta-at .before in
+    let entry = at-if1 .before .before .before .before .before in (
+      pairs-same _ _ _ _ _ _ _
+          (back-some _ _ _ _ (entry .pre .5) _ _ (not-false _ (at-if1 .if1 .left)) (at-beta-at .beta-at .ensures) (at-beta-at2 .beta-at2 .ensures))
           (at-write-leg .write-leg .ensures .0 .0) (at-write-leg .write-leg .ensures .0 .1),
       at-write-leg .write-leg .ensures .1,
     )

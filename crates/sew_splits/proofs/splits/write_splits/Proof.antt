@@ -1,10 +1,7 @@
 -- `splits::write_splits` meets its contract: the face split, the first leg and the second, one behind the other. Assumes nothing.
 use native.Mathlib.Omega.{arith}
 use mathlib.Core.Path.{_∙_}
-use lib.ListN.{length-append}
 use Rattle.sew_ground.proofs.SideLaws.{clean-same}
-use Rattle.sew_pairs.specs.Pairs.{pairEntries}
-use Rattle.sew_pairs.specs.Three.{firstEntries}
 use Rattle.sew_pairs.proofs.SplitLaws.{splits-length, splits-written}
 use borrow.Author.Needs.{needs}
 use Rattle.sew_splits.proofs.splits.write_splits.Statement.{statement}
@@ -19,8 +16,7 @@ write-entry-requires c κs =
     omega (
       arith,
       entry .pre .4,
-      splits-length (entry .args .rows .now) (entry .args .ld) (entry .args .rd) (entry .args .opened) (entry .args .left)
-          (entry .args .right),
+      splits-length (entry .args .rows .now) (entry .args .ld) (entry .args .rd) (entry .args .left) (entry .args .right),
     )
 
 write-first-requires : tie.Need-write-first-requires
@@ -35,8 +31,7 @@ write-first-requires c κs =
         arith,
         entry .pre .4,
         at-write-entry .write-entry .kept .0,
-        splits-length (entry .args .rows .now) (entry .args .ld) (entry .args .rd)
-            (entry .args .opened) (entry .args .left) (entry .args .right),
+        splits-length (entry .args .rows .now) (entry .args .ld) (entry .args .rd) (entry .args .left) (entry .args .right),
       ),
     )
 
@@ -54,13 +49,10 @@ write-back-requires c κs =
         entry .pre .4,
         at-write-entry .write-entry .kept .0,
         at-write-first .write-first .kept .1 .1 .1 .0,
-        at-write-first .write-first
-            .ensures .0 .0,
-        length-append (pairEntries (entry .args .rows .now) (entry .args .ld) (entry .args .rd))
-            (firstEntries (entry .args .rows .now) (entry .args .ld) (entry .args .rd)),
-        splits-length (entry .args .rows .now) (entry .args .ld)
-            (entry .args .rd) (entry .args .opened) (entry .args .left) (entry .args .right),
+        at-write-first .write-first .ensures .0 .0,
+        splits-length (entry .args .rows .now) (entry .args .ld) (entry .args .rd) (entry .args .left) (entry .args .right),
       ),
+      entry .pre .5,
     )
 
 same-length : tie.Need-same-length
@@ -82,13 +74,13 @@ returns c =
     let at-write-first = at-write-back .before .before .before .before .before .before .before .before .before .before in
     let at-write-entry = at-write-first .before .before .before .before .before .before in
     let at-split = at-write-entry .before in (
-      splits-written _ _ _ _ _ _ _ _ _ _ _ _ _ (at-split .split .ensures) (at-write-entry .write-entry .ensures)
-          (at-write-first .write-first .ensures .0 .1) (at-write-first .write-first .ensures .0 .0) (at-write-back .write-back .ensures .0 .1)
-          (at-write-back .write-back .ensures .0 .0),
+      splits-written _ _ _ _ _ _ _ _ _ _ _ _ (at-split .split .ensures) (at-write-entry .write-entry .ensures)
+          (at-write-first .write-first .ensures .0 .1) (at-write-first .write-first .ensures .0 .0)
+          (at-write-back .write-back .ensures .0 .1) (at-write-back .write-back .ensures .0 .0),
       (
         at-write-back .write-back .ensures .1 .0 ∙ at-write-first .write-first .ensures .1 .0,
-        at-write-back .write-back .ensures .1 .1
-            ∙ at-write-first .write-first .ensures .1 .1,
+        at-write-back .write-back .ensures .1 .1 ∙
+            at-write-first .write-first .ensures .1 .1,
       ),
     )
 

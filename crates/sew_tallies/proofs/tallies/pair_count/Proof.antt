@@ -2,7 +2,7 @@
 use native.Mathlib.Omega.{arith}
 use mathlib.Core.Path.{refl}
 use borrow.Author.Tests.{not-true, not-false}
-use Rattle.sew_pairs.proofs.LegLaws.{pair-exact, pair-loose}
+use Rattle.sew_tallies.proofs.TallyLaws.{pair-exact, pair-loose}
 use borrow.Author.Needs.{needs}
 use Rattle.sew_tallies.proofs.tallies.pair_count.Statement.{statement}
 use Rattle.sew_tallies.proofs.tallies.pair_count.Tie as tie

@@ -12,8 +12,9 @@ use Rattle.sew_two.proofs.two.two_unsew_on.Statement.{statement}
 use Rattle.sew_two.proofs.two.two_unsew_on.Tie as tie
 
 -- the dart that was answered
-answered : (c : tie.After-dart-of) → c .dart-of .result ≡ beta (c .before .before .before .before .before .before .before .before .before .before
-    .before .args .rows .now) 2 (c .before .before .before .before .before .before .before .before .before .before .before .args .ld)
+answered : (c : tie.After-dart-of) →
+    let entry = c .before .before .before .before .before .before .before .before .before .before .before in
+    c .dart-of .result ≡ beta (entry .args .rows .now) 2 (entry .args .ld)
 answered c =
     let at-unlink-core = c .before .before .before .before .before in
     let entry = at-unlink-core .before .before .before .before .before .before in

@@ -1,0 +1,2 @@
+// The five sews and unsews as calls.
+pub mod calls;

@@ -1,0 +1,114 @@
+-- What the calls of sews and unsews leave, for a reader, whatever they are lent.
+--   sew-refused    a refused call leaves rows and plan as they were
+--   sew-kept       a call leaves a map a map
+--   call-one-sew-kept, call-one-unsew-kept, call-two-sew-kept, call-two-unsew-kept   each of the calls
+--   call-one-sew-refused, .. each of the calls, refused
+-- Assumes nothing.
+use Prim.Native.Nat.{ℕ}
+use mathlib.Core.Path.{_≡_, refl, sym}
+use mathlib.Core.Bool.{Bool, true, false, cond, true≢false}
+use mathlib.Core.List.{List}
+use lib.Dec.{leb}
+use lib.Ieee.{Float}
+use lib.ListN.{length}
+use Rattle.map_betas.specs.declared.error.Answer.{Answer}
+use Rattle.map_betas.specs.declared.error.Answer.the-variants.{Done, Refused}
+use Rattle.map_betas.specs.declared.error.Refusal.the-variants.{PlanRoom}
+use Rattle.map_betas.specs.Answers.{isDone}
+use Rattle.map_betas.specs.Maps.{WellFormed}
+use Rattle.map_betas.specs.Guards.{scratchOf, vertexLoans, guardOf}
+use Rattle.map_betas.proofs.GuardLaws.{ready}
+use Rattle.sew_plan.specs.Plan.{roomOf, putPlan}
+use Rattle.sew_ground.specs.Sewn.{Work, Sewn, leaves, dartOf, settles, settled, afterPlan, sewn}
+use Rattle.sew_ground.specs.Calls.{sewCall, sewGuard, oneSew, oneUnsew, twoSew, twoUnsew}
+use Rattle.sew_ground.specs.One.{oneSewOn, oneUnsewOn}
+use Rattle.sew_ground.specs.Two.{twoSewOn, twoUnsewOn}
+use Rattle.sew_ground.proofs.SewKept.{one-sew-formed, one-unsew-formed, two-sew-formed, two-unsew-formed}
+
+module _ (rows plan : List ℕ) (w : Work) where
+  -- what is left, by whether the work is done and whether its entries fit
+  abbrev left-by : Bool → Bool → Sewn
+  left-by a b =
+      cond a
+      (afterPlan rows (w .rows)
+      (cond b (settles (Done (dartOf (w .answer)) (length (w .entries))) (putPlan (w .entries) plan))
+      (settles (Refused (PlanRoom (length (w .entries)))) plan)))
+      (leaves (w .answer) rows plan)
+
+  -- a work that is refused, by itself or by the plan's room
+  sewn-refused : isDone (sewn rows plan w .answer) ≡ false → (sewn rows plan w .rows ≡ rows) × (sewn rows plan w .plan ≡ plan)
+  unfolding sewn settled
+  sewn-refused = go (isDone (w .answer)) (leb (length (w .entries)) (roomOf plan))
+    where
+      go : (a b : Bool) → isDone (left-by a b .answer) ≡ false → (left-by a b .rows ≡ rows) × (left-by a b .plan ≡ plan)
+      go false b t = (refl, refl)
+      go true false t = (refl, refl)
+      go true true t = absurd (true≢false t)
+
+module _ (g : Answer) (rows marks queue plan : List ℕ) (w : Work) where
+  pub sew-refused : isDone (sewCall g rows marks queue plan w .answer) ≡ false →
+      (sewCall g rows marks queue plan w .loans .0 ≡ rows) × (sewCall g rows marks queue plan w .loans .3 ≡ plan)
+  sew-refused = go g
+    where
+      go : (h : Answer) → isDone (sewCall h rows marks queue plan w .answer) ≡ false →
+          (sewCall h rows marks queue plan w .loans .0 ≡ rows) × (sewCall h rows marks queue plan w .loans .3 ≡ plan)
+      go (Done d k) t = sewn-refused rows plan w t
+      go (Refused x) t = (refl, refl)
+
+  pub sew-kept : WellFormed rows → (isDone g ≡ true → WellFormed (sewn rows plan w .rows)) → WellFormed (sewCall g rows marks queue plan w .loans .0)
+  sew-kept f k = go g k
+    where
+      go : (h : Answer) → (isDone h ≡ true → WellFormed (sewn rows plan w .rows)) → WellFormed (sewCall h rows marks queue plan w .loans .0)
+      go (Done d n) q = q refl
+      go (Refused x) q = f
+
+module _ (rows marks queue plan : List ℕ) (ld : ℕ) where
+  module _ (f : WellFormed rows) where
+    pub call-one-sew-kept : (rd : ℕ) → WellFormed (oneSew rows marks queue plan ld rd .loans .0)
+    unfolding oneSew
+    call-one-sew-kept rd =
+        sew-kept (sewGuard rows marks queue ld rd) rows marks queue plan (oneSewOn rows ld rd) f
+        (λ t. let r = ready rows (scratchOf (length marks) (length queue)) 1 ld rd t in one-sew-formed rows plan ld f rd (r .left) (r .right))
+
+    pub call-one-unsew-kept : WellFormed (oneUnsew rows marks queue plan ld .loans .0)
+    unfolding oneUnsew
+    call-one-unsew-kept =
+        sew-kept (sewGuard rows marks queue ld ld) rows marks queue plan (oneUnsewOn rows ld) f (λ t. one-unsew-formed rows plan ld f)
+
+    pub call-two-sew-kept : (vertices : List ℕ) (coordinates : List Float) (rd : ℕ) →
+        WellFormed (twoSew rows marks queue vertices coordinates plan ld rd .loans .0)
+    unfolding twoSew
+    call-two-sew-kept vertices coordinates rd =
+        sew-kept (guardOf rows (vertexLoans (length marks) (length queue) (length vertices) (length coordinates)) 1 ld rd) rows marks queue plan
+        (twoSewOn vertices coordinates rows ld rd) f
+        (λ t.
+        let r = ready rows (vertexLoans (length marks) (length queue) (length vertices) (length coordinates)) 1 ld rd t in
+        two-sew-formed rows plan ld f vertices coordinates rd (r .left) (r .right))
+
+    pub call-two-unsew-kept : WellFormed (twoUnsew rows marks queue plan ld .loans .0)
+    unfolding twoUnsew
+    call-two-unsew-kept =
+        sew-kept (sewGuard rows marks queue ld ld) rows marks queue plan (twoUnsewOn rows ld) f (λ t. two-unsew-formed rows plan ld f)
+
+  pub call-one-sew-refused : (rd : ℕ) → isDone (oneSew rows marks queue plan ld rd .answer) ≡ false →
+      (oneSew rows marks queue plan ld rd .loans .0 ≡ rows) × (oneSew rows marks queue plan ld rd .loans .3 ≡ plan)
+  unfolding oneSew
+  call-one-sew-refused rd = sew-refused (sewGuard rows marks queue ld rd) rows marks queue plan (oneSewOn rows ld rd)
+
+  pub call-one-unsew-refused : isDone (oneUnsew rows marks queue plan ld .answer) ≡ false →
+      (oneUnsew rows marks queue plan ld .loans .0 ≡ rows) × (oneUnsew rows marks queue plan ld .loans .3 ≡ plan)
+  unfolding oneUnsew
+  call-one-unsew-refused = sew-refused (sewGuard rows marks queue ld ld) rows marks queue plan (oneUnsewOn rows ld)
+
+  pub call-two-sew-refused : (vertices : List ℕ) (coordinates : List Float) (rd : ℕ) →
+      isDone (twoSew rows marks queue vertices coordinates plan ld rd .answer) ≡ false →
+      (twoSew rows marks queue vertices coordinates plan ld rd .loans .0 ≡ rows) × (twoSew rows marks queue vertices coordinates plan ld rd .loans .3 ≡ plan)
+  unfolding twoSew
+  call-two-sew-refused vertices coordinates rd =
+      sew-refused (guardOf rows (vertexLoans (length marks) (length queue) (length vertices) (length coordinates)) 1 ld rd) rows marks queue plan
+      (twoSewOn vertices coordinates rows ld rd)
+
+  pub call-two-unsew-refused : isDone (twoUnsew rows marks queue plan ld .answer) ≡ false →
+      (twoUnsew rows marks queue plan ld .loans .0 ≡ rows) × (twoUnsew rows marks queue plan ld .loans .3 ≡ plan)
+  unfolding twoUnsew
+  call-two-unsew-refused = sew-refused (sewGuard rows marks queue ld ld) rows marks queue plan (twoUnsewOn rows ld)

@@ -1,0 +1,2 @@
+// An operation for any rows, loans and darts.
+pub mod tested;

@@ -25,6 +25,9 @@
  *     other thread touches it meanwhile.
  * A call keeps no pointer after it returns, allocates nothing and has no state of its own.
  *
+ * COSTS. Every call but the reads makes one pass over the rows first. Lists take time linear in the darts,
+ * but for list_faces on faces that are not regular; what grows faster is said at the call.
+ *
  * LOANS. Sizes are least sizes; more is allowed and left alone.
  *   1 marks          n bytes      scratch
  *   2 queue          n u32        scratch
@@ -131,27 +134,33 @@ uint32_t inkcapper_two_unlink(uint32_t *rows, size_t rows_len, uint32_t ld, uint
  * left dart is not beta 3 of its right one. */
 uint32_t inkcapper_three_unlink(uint32_t *rows, size_t rows_len, uint32_t ld, uint64_t values[3]);
 
-/* ---- Sews and unsews: real darts; links and unlinks with a plan. Scratch: marks and queue. ---- */
+/* ---- Sews and unsews: real darts; links and unlinks with a plan. Scratch: marks and queue.
+ * Refusals 1, 2, 3, 4, then as the links and unlinks inside them, then 11; after any of them the rows are
+ * as before. Below, M of two images is the larger one: the one that there is, where the other is null. ---- */
 
-/* 1-links ld to rd and, if both have beta 3, beta 3 of rd to beta 3 of ld; plans the vertex merge of the
- * cells that stood at the new joint. */
+/* 1-links ld to rd and, if both have beta 3, beta 3 of rd to beta 3 of ld; refuses 6 and 7 as the 1-link
+ * that meets them. At the new joint stand the vertex of M(beta 3, beta 2 of ld) and the vertex of rd, as they
+ * were before; where that M is not null and they differ it plans their merge. */
 uint32_t inkcapper_one_sew(uint32_t *rows, size_t rows_len,
                            uint8_t *marks, size_t marks_len,
                            uint32_t *queue, size_t queue_len,
                            uint32_t *plan, size_t plan_len,
                            uint32_t ld, uint32_t rd, uint64_t values[3]);
 
-/* 1-unlinks ld and, if both darts have beta 3, their beta 3 images likewise, else 9 (ld, rd); plans the
- * vertex split and answers rd. */
+/* 1-unlinks ld, 8 (1, ld) if it has no beta 1 image, and answers rd. If both darts then have beta 3, that of
+ * rd has to lead to that of ld by beta 1, else 9 (ld, rd), and is 1-unlinked too. Plans the split of the
+ * vertices that stand at the joint now: that of M(beta 3, beta 2 of ld) and that of rd. */
 uint32_t inkcapper_one_unsew(uint32_t *rows, size_t rows_len,
                              uint8_t *marks, size_t marks_len,
                              uint32_t *queue, size_t queue_len,
                              uint32_t *plan, size_t plan_len,
                              uint32_t ld, uint64_t values[3]);
 
-/* 2-links ld and rd; plans the edge merge and the vertex merges at both ends, on the cells as they stood
- * before. If the four slots at the ends are defined and the two edges' dot product is zero or more it
- * refuses 10 (2, ld, rd), before any 6 or 7; a NaN does not refuse. */
+/* 2-links ld and rd; refuses 6 and 7 as the 2-link. Plans, on the cells as they stood before, the merge of
+ * their edges, of the vertex of ld with that of M(beta 1, beta 3 of rd), and of the vertex of
+ * M(beta 1, beta 3 of ld) with that of rd, each where they differ and the M is not null. If the slots named by
+ * these four vertices are all defined and the dot product of the two edges, each from its dart's vertex to its
+ * far one, is zero or more it refuses 10 (2, ld, rd), before any 6 or 7; a NaN does not refuse. */
 uint32_t inkcapper_two_sew(uint32_t *rows, size_t rows_len,
                            uint8_t *marks, size_t marks_len,
                            uint32_t *queue, size_t queue_len,
@@ -160,16 +169,20 @@ uint32_t inkcapper_two_sew(uint32_t *rows, size_t rows_len,
                            uint32_t *plan, size_t plan_len,
                            uint32_t ld, uint32_t rd, uint64_t values[3]);
 
-/* 2-unlinks ld; plans the edge split and the vertex splits at both ends, on the cells as they stand
- * after, and answers rd. */
+/* 2-unlinks ld, 8 (2, ld) if it has no beta 2 image; plans the edge split and the vertex splits at both ends
+ * as the 2-sew has them, on the cells as they stand after, and answers rd. */
 uint32_t inkcapper_two_unsew(uint32_t *rows, size_t rows_len,
                              uint8_t *marks, size_t marks_len,
                              uint32_t *queue, size_t queue_len,
                              uint32_t *plan, size_t plan_len,
                              uint32_t ld, uint64_t values[3]);
 
-/* 3-unlinks the face of ld; plans the face split, then for each pair in walk order its edge split and its
- * vertex splits, on the cells as they stand after, and answers rd. */
+/* 3-unlinks the face of ld, 8 (3, ld) or 9 (ld, rd) as the 3-unlink; plans the face split (least left dart,
+ * least right dart, the lesser), then for each pair l, r in walk order, on the cells as they stand after: the
+ * edge split; the split of the vertex of M(beta 1, beta 2 of l) and that of r; and, where beta 0 of l is null,
+ * of the vertex of l and that of M(beta 1, beta 2 of r). The vertex of a null M is 0, and such a split is
+ * listed. Answers rd. Costs: it names the cells of every pair, so that a fan, where many pairs share one large
+ * vertex, costs the pairs times the vertex, and twice that where the plan is too short to be sure. */
 uint32_t inkcapper_three_unsew(uint32_t *rows, size_t rows_len,
                                uint8_t *marks, size_t marks_len,
                                uint32_t *queue, size_t queue_len,
@@ -273,7 +286,9 @@ uint32_t inkcapper_list_edges(const uint32_t *rows, size_t rows_len,
                               uint32_t *output, size_t output_len,
                               const uint8_t *flags, size_t flags_len, uint64_t values[3]);
 
-/* Writes the faces, as inkcapper_face_id names them. */
+/* Writes the faces, as inkcapper_face_id names them. Costs: a closed face none or all of whose darts have
+ * beta 3 images that go with it is walked once; any other is walked from each of its darts, so that k darts
+ * cost k times k. */
 uint32_t inkcapper_list_faces(const uint32_t *rows, size_t rows_len,
                               uint8_t *marks, size_t marks_len,
                               uint32_t *queue, size_t queue_len,

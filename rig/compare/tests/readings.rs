@@ -1,17 +1,27 @@
-//! Readings of document 01 that are stated without a walk, tried over all maps of up to four real darts
-//! against the model's walks (which the comparison holds against the published Rust's).
+//! Readings of the scope that are stated without a walk, tried over all maps of up to four real darts against
+//! the walks of the model and of the published Rust, which have to agree.
 
+use std::cell::RefCell;
 use std::collections::BTreeMap;
 
-use compare::{Answer, Call, Cell, Kernel, Loans, Model, Orbit, maps};
+use compare::{Answer, Call, Cell, Kernel, Loans, Model, Orbit, Published, maps};
+
+thread_local! {
+    static PUBLISHED: RefCell<Published> = RefCell::new(Published::default());
+}
 
 fn image(rows: &[u32], i: usize, d: u32) -> u32 {
     rows[4 * d as usize + i]
 }
 
+/// Runs a call of real darts of a map on the model and on the published Rust.
 fn run(call: Call, rows: &[u32]) -> (Answer, Loans) {
     let mut loans = Loans::around(rows.to_vec());
     let answer = Model.run(&call, &mut loans);
+    let mut lent = Loans::around(rows.to_vec());
+    let published = PUBLISHED.with_borrow_mut(|published| published.run(&call, &mut lent));
+    assert_eq!(published, answer, "{call:?} on {rows:?}");
+    assert_eq!((lent.rows, lent.plan, lent.output), (loans.rows.clone(), loans.plan.clone(), loans.output.clone()));
     (answer, loans)
 }
 

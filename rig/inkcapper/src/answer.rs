@@ -3,12 +3,13 @@
 use std::fmt;
 
 /// The answer of a call: done, or refused with a reason.
+#[must_use = "a call that is not looked at may have been refused"]
 #[derive(Debug, Clone, Copy, PartialEq, Eq, Hash)]
 pub enum Answer {
     /// Done, with the dart or yes/no answered (0 where none) and the count written (0 where none).
     Done {
         /// The dart, or 1 for yes and 0 for no.
-        first: u64,
+        first: u32,
         /// Darts for orbits, lists and the reader; entries for plans.
         count: u64,
     },
@@ -16,41 +17,42 @@ pub enum Answer {
     Refused(Refusal),
 }
 
-/// Document 01's refusals, with their values.
+/// The refusals, with their values.
+#[must_use = "a refusal says what the call has not done"]
 #[derive(Debug, Clone, Copy, PartialEq, Eq, Hash)]
 pub enum Refusal {
     /// 1: the row length is 0, no multiple of 4, or the darts are too many.
     BadSize { length: u64 },
     /// 2: a loan is below its size. Loans are numbered 1 to 7: marks, queue, output, flags, vertex
     /// marks, coordinates, rows.
-    ShortLoan { loan: u64 },
+    ShortLoan { loan: u32 },
     /// 3: the image of this dart under this beta is the first that breaks a rule of maps.
-    NotAMap { beta: u64, dart: u64 },
+    NotAMap { beta: u32, dart: u32 },
     /// 4: the first or second dart is not below n, or is 0 where a real one is asked for.
-    BadDart { argument: u64 },
+    BadDart { argument: u32 },
     /// 5: a beta number above 3.
-    BadBeta { value: u64 },
+    BadBeta { value: u32 },
     /// 6: cannot link `l` to `r`, beta `i` of `l` is not null.
-    NonFreeBase { i: u64, l: u64, r: u64 },
+    NonFreeBase { i: u32, l: u32, r: u32 },
     /// 7: cannot link `l` to `r`, beta `i` of `r` is not null (or `l` is `r` under beta 2 or 3).
-    NonFreeImage { i: u64, l: u64, r: u64 },
+    NonFreeImage { i: u32, l: u32, r: u32 },
     /// 8: cannot unlink `d`, its beta `i` is null.
-    AlreadyFree { i: u64, d: u64 },
+    AlreadyFree { i: u32, d: u32 },
     /// 9: the two faces do not go together.
-    AsymmetricalFaces { ld: u64, rd: u64 },
+    AsymmetricalFaces { ld: u32, rd: u32 },
     /// 10: the two edges do not point against each other.
-    BadGeometry { i: u64, ld: u64, rd: u64 },
+    BadGeometry { i: u32, ld: u32, rd: u32 },
     /// 11: the plan needs this many entries, and fewer fit.
     PlanRoom { entries: u64 },
     /// 12: this header word (0 to 6), or the flags (7), or the vertices (8) of the image are wrong.
-    BadImage { part: u64 },
-    /// A number, or values, that document 01 does not have. No call of the proved library gives it.
+    BadImage { part: u32 },
+    /// A number, or values, that no call of the proved library gives.
     Unknown { number: u32, values: [u64; 3] },
 }
 
 impl Answer {
-    /// The answer for document 01's number and values. Nothing is lost: [`parts`](Self::parts) gives
-    /// both back.
+    /// The answer for a call's number and values. Nothing is lost: [`parts`](Self::parts) gives both
+    /// back.
     ///
     /// ```
     /// use inkcapper::{Answer, Refusal};
@@ -61,29 +63,30 @@ impl Answer {
     /// assert_eq!(Answer::from_parts(11, [4, 0, 1]).parts(), (11, [4, 0, 1]));
     /// ```
     pub fn from_parts(number: u32, values: [u64; 3]) -> Self {
-        let refusal = match (number, values) {
-            (0, [first, count, 0]) => return Self::Done { first, count },
-            (1, [length, 0, 0]) => Refusal::BadSize { length },
-            (2, [loan, 0, 0]) => Refusal::ShortLoan { loan },
-            (3, [beta, dart, 0]) => Refusal::NotAMap { beta, dart },
-            (4, [argument, 0, 0]) => Refusal::BadDart { argument },
-            (5, [value, 0, 0]) => Refusal::BadBeta { value },
-            (6, [i, l, r]) => Refusal::NonFreeBase { i, l, r },
-            (7, [i, l, r]) => Refusal::NonFreeImage { i, l, r },
-            (8, [i, d, 0]) => Refusal::AlreadyFree { i, d },
-            (9, [ld, rd, 0]) => Refusal::AsymmetricalFaces { ld, rd },
-            (10, [i, ld, rd]) => Refusal::BadGeometry { i, ld, rd },
-            (11, [entries, 0, 0]) => Refusal::PlanRoom { entries },
-            (12, [part, 0, 0]) => Refusal::BadImage { part },
-            _ => Refusal::Unknown { number, values },
+        let [a, b, c] = values;
+        let refusal = match (number, values.map(|value| u32::try_from(value).ok())) {
+            (0, [Some(first), _, Some(0)]) => return Self::Done { first, count: b },
+            (1, [_, Some(0), Some(0)]) => Refusal::BadSize { length: a },
+            (2, [Some(loan), Some(0), Some(0)]) => Refusal::ShortLoan { loan },
+            (3, [Some(beta), Some(dart), Some(0)]) => Refusal::NotAMap { beta, dart },
+            (4, [Some(argument), Some(0), Some(0)]) => Refusal::BadDart { argument },
+            (5, [Some(value), Some(0), Some(0)]) => Refusal::BadBeta { value },
+            (6, [Some(i), Some(l), Some(r)]) => Refusal::NonFreeBase { i, l, r },
+            (7, [Some(i), Some(l), Some(r)]) => Refusal::NonFreeImage { i, l, r },
+            (8, [Some(i), Some(d), Some(0)]) => Refusal::AlreadyFree { i, d },
+            (9, [Some(ld), Some(rd), Some(0)]) => Refusal::AsymmetricalFaces { ld, rd },
+            (10, [Some(i), Some(ld), Some(rd)]) => Refusal::BadGeometry { i, ld, rd },
+            (11, [_, Some(0), Some(0)]) => Refusal::PlanRoom { entries: a },
+            (12, [Some(part), Some(0), Some(0)]) => Refusal::BadImage { part },
+            _ => Refusal::Unknown { number, values: [a, b, c] },
         };
         Self::Refused(refusal)
     }
 
-    /// Document 01's number and values.
+    /// The number and the values.
     pub fn parts(self) -> (u32, [u64; 3]) {
         match self {
-            Self::Done { first, count } => (0, [first, count, 0]),
+            Self::Done { first, count } => (0, [first.into(), count, 0]),
             Self::Refused(refusal) => refusal.parts(),
         }
     }
@@ -93,7 +96,7 @@ impl Answer {
     /// # Errors
     ///
     /// The refusal of one that was not.
-    pub fn done(self) -> Result<(u64, u64), Refusal> {
+    pub fn done(self) -> Result<(u32, u64), Refusal> {
         match self {
             Self::Done { first, count } => Ok((first, count)),
             Self::Refused(refusal) => Err(refusal),
@@ -102,28 +105,29 @@ impl Answer {
 }
 
 impl Refusal {
-    /// Document 01's number and values.
+    /// The number and the values.
     pub fn parts(self) -> (u32, [u64; 3]) {
+        let of = |number: u32, values: [u32; 3]| (number, values.map(u64::from));
         match self {
             Self::BadSize { length } => (1, [length, 0, 0]),
-            Self::ShortLoan { loan } => (2, [loan, 0, 0]),
-            Self::NotAMap { beta, dart } => (3, [beta, dart, 0]),
-            Self::BadDart { argument } => (4, [argument, 0, 0]),
-            Self::BadBeta { value } => (5, [value, 0, 0]),
-            Self::NonFreeBase { i, l, r } => (6, [i, l, r]),
-            Self::NonFreeImage { i, l, r } => (7, [i, l, r]),
-            Self::AlreadyFree { i, d } => (8, [i, d, 0]),
-            Self::AsymmetricalFaces { ld, rd } => (9, [ld, rd, 0]),
-            Self::BadGeometry { i, ld, rd } => (10, [i, ld, rd]),
+            Self::ShortLoan { loan } => of(2, [loan, 0, 0]),
+            Self::NotAMap { beta, dart } => of(3, [beta, dart, 0]),
+            Self::BadDart { argument } => of(4, [argument, 0, 0]),
+            Self::BadBeta { value } => of(5, [value, 0, 0]),
+            Self::NonFreeBase { i, l, r } => of(6, [i, l, r]),
+            Self::NonFreeImage { i, l, r } => of(7, [i, l, r]),
+            Self::AlreadyFree { i, d } => of(8, [i, d, 0]),
+            Self::AsymmetricalFaces { ld, rd } => of(9, [ld, rd, 0]),
+            Self::BadGeometry { i, ld, rd } => of(10, [i, ld, rd]),
             Self::PlanRoom { entries } => (11, [entries, 0, 0]),
-            Self::BadImage { part } => (12, [part, 0, 0]),
+            Self::BadImage { part } => of(12, [part, 0, 0]),
             Self::Unknown { number, values } => (number, values),
         }
     }
 }
 
-/// Document 01's names of the loans, 1 to 7.
-fn loan_name(loan: u64) -> &'static str {
+/// The names of the loans, 1 to 7.
+fn loan_name(loan: u32) -> &'static str {
     match loan {
         1 => "marks",
         2 => "queue",

@@ -1,9 +1,10 @@
 //! Inkcapper from Rust: the proved dart and beta part of honeycomb-core's 3-map, called through C
 //! linkage.
 //!
+//! - [`map`] has the calls on rows alone: a read gives a dart or a yes or no.
 //! - [`slices`] has one safe function for each call, on the caller's own slices.
 //! - [`Loans`] holds scratch, output and plan and grows them, for callers that hold rows alone.
-//! - [`Answer`] and [`Refusal`] are what calls answer, as types; each says its document 01 number.
+//! - [`Answer`] and [`Refusal`] are what calls answer, as types; each says its number.
 //!
 //! Nothing here panics, whatever the arguments: every test is the library's, and it refuses.
 //!
@@ -13,7 +14,8 @@
 mod answer;
 pub mod ffi;
 mod loans;
+pub mod map;
 pub mod slices;
 
 pub use answer::{Answer, Refusal};
-pub use loans::{Cell, Entry, Image, Loans, MOST_DARTS, Orbit, Sewn, Vertices, read_image};
+pub use loans::{Cell, Entry, Image, Kind, Loans, MOST_DARTS, Orbit, Sewn, Vertices, read_image};

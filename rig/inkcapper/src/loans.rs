@@ -40,28 +40,55 @@ pub enum Orbit<'a> {
     Custom(&'a [u8]),
 }
 
+/// What becomes of the cells of an entry.
+#[derive(Debug, Clone, Copy, PartialEq, Eq, Hash)]
+pub enum Kind {
+    /// Two cells become one.
+    Merge,
+    /// One cell becomes two.
+    Split,
+}
+
 /// An entry of a plan: what is to be merged or split in the caller's own stores, in order.
 #[derive(Debug, Clone, Copy, PartialEq, Eq, Hash)]
 pub struct Entry {
-    /// 1 vertex merge, 2 edge merge, 11 vertex split, 12 edge split, 13 face split.
-    pub code: u32,
-    /// A merge's out, left in, right in; a split's left out, right out, in.
-    pub ids: [u32; 3],
+    /// The class of the cells.
+    pub class: Cell,
+    /// Whether they merge or split.
+    pub kind: Kind,
+    /// The identifier of the left one of the two.
+    pub left: u32,
+    /// The identifier of the right one.
+    pub right: u32,
+    /// The identifier of the one: what a merge leaves, what a split comes from; the lesser of the two.
+    pub whole: u32,
+}
+
+impl Entry {
+    /// The entry that four numbers of a plan say, if they are one.
+    fn read(words: &[u32]) -> Option<Self> {
+        let &[code, a, b, c] = words else { return None };
+        let (class, kind) = match code {
+            1 => (Cell::Vertex, Kind::Merge),
+            2 => (Cell::Edge, Kind::Merge),
+            11 => (Cell::Vertex, Kind::Split),
+            12 => (Cell::Edge, Kind::Split),
+            13 => (Cell::Face, Kind::Split),
+            _ => return None,
+        };
+        let [left, right, whole] = if kind == Kind::Merge { [b, c, a] } else { [a, b, c] };
+        Some(Self { class, kind, left, right, whole })
+    }
 }
 
 /// A sew or unsew that was done.
+#[must_use = "the plan says what the caller's own stores have to follow"]
 #[derive(Debug, Clone, Copy, PartialEq, Eq)]
 pub struct Sewn<'a> {
     /// The dart that an unsew answers, 0 for a sew.
     pub dart: u32,
-    plan: &'a [u32],
-}
-
-impl<'a> Sewn<'a> {
     /// The plan in order.
-    pub fn plan(&self) -> impl ExactSizeIterator<Item = Entry> + 'a {
-        self.plan.chunks_exact(4).map(|e| Entry { code: e[0], ids: [e[1], e[2], e[3]] })
-    }
+    pub plan: &'a [Entry],
 }
 
 /// Vertex slots, for [`Loans::two_sew`].
@@ -90,17 +117,18 @@ pub struct Image {
 ///
 /// ```
 /// # #[cfg(not(feature = "linked"))] extern crate c_names;
-/// use inkcapper::{Cell, Loans, Orbit, Refusal, slices};
+/// use inkcapper::{Cell, Entry, Kind, Loans, Orbit, Refusal, map};
 ///
 /// let mut rows = vec![0; 12]; // two free darts
 /// let mut loans = Loans::new();
-/// slices::three_link(&mut rows, 1, 2).done()?;
+/// map::three_link(&mut rows, 1, 2)?;
 /// assert_eq!(loans.identifier(Cell::Face, &rows, 2)?, 1);
 /// assert_eq!(loans.orbit(Orbit::Edge, &rows, 2)?, [2, 1]);
 ///
 /// let sewn = loans.three_unsew(&mut rows, 1)?;
 /// assert_eq!(sewn.dart, 2);
-/// assert_eq!(sewn.plan().map(|entry| entry.code).collect::<Vec<_>>(), [13, 12, 11, 11]);
+/// assert_eq!(sewn.plan.len(), 4);
+/// assert_eq!(sewn.plan[0], Entry { class: Cell::Face, kind: Kind::Split, left: 1, right: 2, whole: 1 });
 /// assert_eq!(loans.three_unsew(&mut rows, 1), Err(Refusal::AlreadyFree { i: 3, d: 1 }));
 /// # Ok::<(), Refusal>(())
 /// ```
@@ -110,21 +138,17 @@ pub struct Loans {
     queue: Vec<u32>,
     output: Vec<u32>,
     plan: Vec<u32>,
+    entries: Vec<Entry>,
 }
 
-/// A number that the library answers as a dart. One that is no u32 would be a fault of the library;
-/// it is named as such and not cut short.
-fn dart(first: u64, count: u64) -> Result<u32, Refusal> {
-    u32::try_from(first).map_err(|_| Refusal::Unknown { number: 0, values: [first, count, 0] })
-}
-
-/// The first `count` of what was lent, with the same care.
-fn written(lent: &[u32], first: u64, count: u64, each: usize) -> Result<&[u32], Refusal> {
+/// The first `count` of what was lent. A count that is more would be a fault of the library; it is named as
+/// such.
+fn written(lent: &[u32], first: u32, count: u64, each: usize) -> Result<&[u32], Refusal> {
     usize::try_from(count)
         .ok()
         .and_then(|count| count.checked_mul(each))
         .and_then(|length| lent.get(..length))
-        .ok_or(Refusal::Unknown { number: 0, values: [first, count, 0] })
+        .ok_or(Refusal::Unknown { number: 0, values: [first.into(), count, 0] })
 }
 
 impl Loans {
@@ -147,7 +171,7 @@ impl Loans {
     ///
     /// # Errors
     ///
-    /// Document 01's refusals 1, 3 and 4.
+    /// Refusals 1, 3 and 4.
     pub fn identifier(&mut self, cell: Cell, rows: &[u32], d: u32) -> Result<u32, Refusal> {
         self.grow(rows);
         let call = match cell {
@@ -156,15 +180,14 @@ impl Loans {
             Cell::Face => slices::face_id,
             Cell::Volume => slices::volume_id,
         };
-        let (first, count) = call(rows, &mut self.marks, &mut self.queue, d).done()?;
-        dart(first, count)
+        call(rows, &mut self.marks, &mut self.queue, d).done().map(|(first, _)| first)
     }
 
     /// The darts of an orbit of `d`, first found first.
     ///
     /// # Errors
     ///
-    /// Document 01's refusals 1, 3, 4 and, for `Custom`, 5.
+    /// Refusals 1, 3, 4 and, for `Custom`, 5.
     pub fn orbit(&mut self, orbit: Orbit<'_>, rows: &[u32], d: u32) -> Result<&[u32], Refusal> {
         self.grow(rows);
         let (marks, output) = (&mut self.marks[..], &mut self.output[..]);
@@ -186,7 +209,7 @@ impl Loans {
     ///
     /// # Errors
     ///
-    /// Document 01's refusals 1 and 3, and 2 for short flags.
+    /// Refusals 1 and 3, and 2 for short flags.
     pub fn list(&mut self, cell: Cell, rows: &[u32], flags: &[u8]) -> Result<&[u32], Refusal> {
         self.grow(rows);
         let call = match cell {
@@ -217,15 +240,20 @@ impl Loans {
                 answer = call(rows, &mut self.marks, &mut self.queue, &mut self.plan);
             }
         }
-        let (first, count) = answer.done()?;
-        Ok(Sewn { dart: dart(first, count)?, plan: written(&self.plan, first, count, 4)? })
+        let (dart, count) = answer.done()?;
+        self.entries.clear();
+        for words in written(&self.plan, dart, count, 4)?.chunks_exact(4) {
+            let fault = Refusal::Unknown { number: 0, values: [dart.into(), count, words[0].into()] };
+            self.entries.push(Entry::read(words).ok_or(fault)?);
+        }
+        Ok(Sewn { dart, plan: &self.entries })
     }
 
     /// 1-sews `ld` to `rd`.
     ///
     /// # Errors
     ///
-    /// Document 01's refusals 1, 3, 4, 6 and 7.
+    /// Refusals 1, 3, 4, 6 and 7.
     pub fn one_sew(&mut self, rows: &mut [u32], ld: u32, rd: u32) -> Result<Sewn<'_>, Refusal> {
         self.with_plan(rows, |rows, marks, queue, plan| slices::one_sew(rows, marks, queue, plan, ld, rd))
     }
@@ -234,7 +262,7 @@ impl Loans {
     ///
     /// # Errors
     ///
-    /// Document 01's refusals 1, 3, 4, 8 and 9.
+    /// Refusals 1, 3, 4, 8 and 9.
     pub fn one_unsew(&mut self, rows: &mut [u32], ld: u32) -> Result<Sewn<'_>, Refusal> {
         self.with_plan(rows, |rows, marks, queue, plan| slices::one_unsew(rows, marks, queue, plan, ld))
     }
@@ -243,7 +271,7 @@ impl Loans {
     ///
     /// # Errors
     ///
-    /// Document 01's refusals 1, 3, 4, 6, 7 and 10, and 2 for short vertices.
+    /// Refusals 1, 3, 4, 6, 7 and 10, and 2 for short vertices.
     pub fn two_sew(&mut self, rows: &mut [u32], vertices: Vertices<'_>, ld: u32, rd: u32) -> Result<Sewn<'_>, Refusal> {
         self.with_plan(rows, |rows, marks, queue, plan| {
             slices::two_sew(rows, marks, queue, vertices.marks, vertices.coordinates, plan, ld, rd)
@@ -254,7 +282,7 @@ impl Loans {
     ///
     /// # Errors
     ///
-    /// Document 01's refusals 1, 3, 4 and 8.
+    /// Refusals 1, 3, 4 and 8.
     pub fn two_unsew(&mut self, rows: &mut [u32], ld: u32) -> Result<Sewn<'_>, Refusal> {
         self.with_plan(rows, |rows, marks, queue, plan| slices::two_unsew(rows, marks, queue, plan, ld))
     }
@@ -263,7 +291,7 @@ impl Loans {
     ///
     /// # Errors
     ///
-    /// Document 01's refusals 1, 3, 4, 8 and 9.
+    /// Refusals 1, 3, 4, 8 and 9.
     pub fn three_unsew(&mut self, rows: &mut [u32], ld: u32) -> Result<Sewn<'_>, Refusal> {
         self.with_plan(rows, |rows, marks, queue, plan| slices::three_unsew(rows, marks, queue, plan, ld))
     }
@@ -284,7 +312,7 @@ impl Loans {
 ///
 /// # Errors
 ///
-/// Document 01's refusals 12 and 3.
+/// Refusals 12 and 3.
 pub fn read_image(bytes: &[u8]) -> Result<Image, Refusal> {
     // Word 2 says how many darts; an image of n darts has at least 17n bytes, so that a word that lies
     // cannot make us lend more than the image's own size asks for.

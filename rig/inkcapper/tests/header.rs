@@ -1,8 +1,9 @@
-//! The C header and the Rust declarations say the same: the same functions, and for each the same
-//! parameters, by name and type, in the same order.
+//! The C header, the Rust declarations and the exported functions of the crate `inkcapper` say the same:
+//! the same functions, and for each parameters of the same types in the same order; header and Rust
+//! declarations have the same names for them too.
 
 use std::collections::BTreeMap;
-use std::path::Path;
+use std::path::{Path, PathBuf};
 
 type Functions = BTreeMap<String, Vec<(String, String)>>;
 
@@ -69,14 +70,62 @@ fn of_rust(text: &str) -> Functions {
     functions
 }
 
+/// Parameters of an exported function: a slice crosses as a pointer and a length.
+fn of_exports(text: &str) -> Functions {
+    let mut functions = Functions::new();
+    for declaration in text.split("#[no_mangle]\npub extern \"C\" fn ").skip(1) {
+        let name = declaration[..declaration.find('(').expect("parameters")].to_string();
+        let mut parameters = Vec::new();
+        let listed = inside(declaration, '(', ')');
+        for parameter in listed.split(',').map(str::trim).filter(|parameter| !parameter.is_empty()) {
+            let (name, ty) = parameter.split_once(": ").expect("a name and a type");
+            let slice = |ty: &str| (name.to_string(), ty.to_string());
+            match ty {
+                "&mut [u64; 3]" => parameters.push(slice("Values")),
+                "u32" => parameters.push(slice("u32")),
+                _ => {
+                    let pointer = match ty {
+                        "&[u32]" => "*const u32",
+                        "&mut [u32]" => "*mut u32",
+                        "&[u8]" => "*const u8",
+                        "&mut [u8]" => "*mut u8",
+                        "&[f64]" => "*const f64",
+                        "&mut [f64]" => "*mut f64",
+                        other => panic!("{other} is no type of the boundary"),
+                    };
+                    parameters.push(slice(pointer));
+                    parameters.push((format!("{name}_len"), "usize".to_string()));
+                }
+            }
+        }
+        functions.insert(name, parameters);
+    }
+    functions
+}
+
+fn repository() -> PathBuf {
+    Path::new(env!("CARGO_MANIFEST_DIR")).join("../..")
+}
+
+fn header() -> Functions {
+    of_header(&std::fs::read_to_string(repository().join("include/inkcapper.h")).expect("include/inkcapper.h"))
+}
+
 #[test]
 fn header_and_declarations_agree() {
-    let here = Path::new(env!("CARGO_MANIFEST_DIR"));
-    let header = ["../../include/inkcapper.h", "../include/inkcapper.h"]
-        .iter()
-        .find_map(|place| std::fs::read_to_string(here.join(place)).ok())
-        .expect("include/inkcapper.h");
-    let (c, rust) = (of_header(&header), of_rust(include_str!("../src/ffi.rs")));
-    assert_eq!(c.len(), 32);
-    assert_eq!(c, rust);
+    assert_eq!(header(), of_rust(include_str!("../src/ffi.rs")));
+}
+
+#[test]
+fn header_and_exports_agree() {
+    let mut exports = Functions::new();
+    for file in std::fs::read_dir(repository().join("crates/inkcapper/src")).expect("the crate inkcapper") {
+        let text = std::fs::read_to_string(file.expect("a file").path()).expect("a text");
+        exports.extend(of_exports(&text));
+    }
+    assert!(!exports.is_empty());
+    let types = |functions: Functions| -> BTreeMap<String, Vec<String>> {
+        functions.into_iter().map(|(name, of)| (name, of.into_iter().map(|(_, ty)| ty).collect())).collect()
+    };
+    assert_eq!(types(header()), types(exports));
 }

@@ -73,7 +73,7 @@ impl Comparison {
         count.calls += 1;
         count.answers[expected.0 as usize] += 1;
         for (at, kernel) in self.kernels.iter_mut().enumerate() {
-            if !kernel.has_say(call, &expected) {
+            if !kernel.has_say(call, before) {
                 continue;
             }
             count.compared[at] += 1;

@@ -288,8 +288,9 @@ pub trait Kernel {
     /// Its name in reports.
     fn name(&self) -> &'static str;
 
-    /// Whether it has a say where the model answers so.
-    fn has_say(&self, call: &Call, expected: &Answer) -> bool;
+    /// Whether it has a say on this call with these loans; judged from these alone, and not by what the model
+    /// answers.
+    fn has_say(&self, call: &Call, before: &Loans) -> bool;
 
     /// Whether marks and queue are its own doing and so compared.
     fn leaves_scratch(&self) -> bool;

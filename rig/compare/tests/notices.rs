@@ -11,7 +11,7 @@ impl<F: Fn(&Call, &Loans, &mut Loans, Answer) -> Answer> Kernel for Spoilt<F> {
     fn name(&self) -> &'static str {
         "spoilt"
     }
-    fn has_say(&self, _: &Call, _: &Answer) -> bool {
+    fn has_say(&self, _: &Call, _: &Loans) -> bool {
         true
     }
     fn leaves_scratch(&self) -> bool {

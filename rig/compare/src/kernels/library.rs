@@ -104,7 +104,7 @@ impl Kernel for Library {
     }
 
     /// Every call that has a C name, refusals included.
-    fn has_say(&self, call: &Call, _: &Answer) -> bool {
+    fn has_say(&self, call: &Call, _: &Loans) -> bool {
         !matches!(call, Call::ThreeLinkCore { .. } | Call::ThreeUnlinkCore { .. })
     }
 

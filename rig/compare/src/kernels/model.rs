@@ -71,7 +71,7 @@ impl Kernel for Model {
         "model"
     }
 
-    fn has_say(&self, _: &Call, _: &Answer) -> bool {
+    fn has_say(&self, _: &Call, _: &Loans) -> bool {
         true
     }
 

@@ -129,15 +129,69 @@ fn orbit_of_oracle(orbit: &Orbit) -> oracle::Orbit<'_> {
     }
 }
 
+/// The most darts that a map may have, the null dart counted.
+const MOST_DARTS: usize = 1 << 20;
+
+/// Whether rows are a map, from the rules themselves.
+fn is_map(rows: &[u32]) -> bool {
+    let n = rows.len() / 4;
+    let image = |i: usize, d: usize| rows[4 * d + i] as usize;
+    (0..n).all(|d| {
+        (0..4).all(|i| match image(i, d) {
+            0 => true,
+            x => d != 0 && x < n && image([1, 0, 2, 3][i], x) == d && (i < 2 || x != d),
+        })
+    })
+}
+
+/// The beta numbers and the darts of a call.
+fn betas_and_darts(call: &Call) -> (Vec<u32>, Vec<u32>) {
+    let mut numbers = call.numbers();
+    let betas = match call {
+        Call::Beta { .. } | Call::IsIFree { .. } => 1,
+        Call::Orbit { orbit: Orbit::Custom(betas), .. } => betas.len(),
+        _ => 0,
+    };
+    let darts = numbers.split_off(betas);
+    (numbers, darts)
+}
+
+/// Whether the loans that the call has, but for the plan, are long enough for n darts.
+fn long_enough(call: &Call, loans: &Loans, n: usize) -> bool {
+    let (marks, queue) = (loans.marks.len() >= n, loans.queue.len() >= n);
+    match call {
+        Call::Identifier { .. } => marks && queue,
+        Call::Orbit { .. } => marks && loans.output.len() >= n,
+        Call::List { .. } => marks && queue && loans.output.len() >= n && loans.flags.len() >= n,
+        Call::TwoSew { .. } => marks && queue && loans.vertex_marks.len() >= n && loans.coordinates.len() >= 3 * n,
+        call if call.plans() => marks && queue,
+        _ => true,
+    }
+}
+
 impl Kernel for Published {
     fn name(&self) -> &'static str {
         "published Rust"
     }
 
-    /// Sizes, loans, map test, darts, betas and images are document 01's own; the map test and the reader
-    /// as calls have no counterpart in it.
-    fn has_say(&self, call: &Call, expected: &Answer) -> bool {
-        !matches!(expected.0, 1..=5 | 12) && !matches!(call, Call::CheckMap | Call::ReadImage)
+    /// It has one wherever refusals 1 to 5 and 12, which it does not have, do not come first; the map test and
+    /// the reader as calls have no counterpart in it.
+    fn has_say(&self, call: &Call, before: &Loans) -> bool {
+        let n = before.rows.len() / 4;
+        let sized = before.rows.len() == 4 * n && (1..=MOST_DARTS).contains(&n);
+        let least = match call {
+            Call::CheckMap | Call::ReadImage => return false,
+            Call::Beta { .. } | Call::IsIFree { .. } | Call::IsFree { .. } => 0,
+            Call::Identifier { .. } | Call::Orbit { .. } | Call::List { .. } => 0,
+            _ => 1,
+        };
+        let reads = matches!(call, Call::Beta { .. } | Call::IsIFree { .. } | Call::IsFree { .. });
+        let (betas, darts) = betas_and_darts(call);
+        sized
+            && long_enough(call, before, n)
+            && betas.iter().all(|&i| i < 4)
+            && darts.iter().all(|&d| (least..n as u32).contains(&d))
+            && (reads || is_map(&before.rows))
     }
 
     fn leaves_scratch(&self) -> bool {

@@ -43,10 +43,10 @@ fn put_points(loans: &mut Loans, points: usize) {
 pub fn answers(kernel: &mut dyn Kernel, k: usize, stride: usize, points: usize, mut each: impl FnMut(String)) {
     let n = k + 1;
     let mut calls = every_call(n);
-    calls.retain(|call| kernel.has_say(call, &(0, [0; 3])));
+    let mut loans = Loans::around(vec![0; 4 * n]);
+    calls.retain(|call| kernel.has_say(call, &loans));
     calls.retain(|call| points == 0 || matches!(call, Call::TwoSew { .. }));
     let note = if points == 0 { String::new() } else { format!("@{points}") };
-    let mut loans = Loans::around(vec![0; 4 * n]);
     put_points(&mut loans, points);
     let mut at = 0;
     maps::all_of(k, |rows| {

@@ -25,8 +25,8 @@
  *     other thread touches it meanwhile.
  * A call keeps no pointer after it returns, allocates nothing and has no state of its own.
  *
- * COSTS. Every call but the reads makes one pass over the rows first. Lists take time linear in the darts,
- * but for list_faces on faces that are not regular; what grows faster is said at the call.
+ * COSTS. Every call but the reads and the reader makes one pass over the rows first. Lists take time linear
+ * in the darts, but for list_faces on faces that are not regular; what grows faster is said at the call.
  *
  * LOANS. Sizes are least sizes; more is allowed and left alone.
  *   1 marks          n bytes      scratch

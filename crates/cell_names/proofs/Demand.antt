@@ -15,7 +15,7 @@ use Rattle.map_betas.specs.declared.error.Answer.{Answer}
 use Rattle.map_betas.specs.declared.error.Answer.the-variants.{Done}
 use Rattle.map_betas.specs.declared.loans.Loans.{Loans}
 use Rattle.map_betas.specs.Betas.{darts}
-use Rattle.map_betas.specs.Answers.{pass, isDone, andThen, Outcome, outcome, behind}
+use Rattle.map_betas.specs.Answers.{pass, isDone, andThen, outcome, behind}
 use Rattle.map_betas.specs.Maps.{WellFormed}
 use Rattle.map_betas.specs.Guards.{scratchOf, orbitLoans, listLoans, guardOf, Lent}
 use Rattle.map_betas.proofs.AnswerLaws.{refused-leaves}

@@ -18,7 +18,7 @@ use Rattle.map_betas.specs.declared.error.Refusal.the-variants.{NotAMap}
 use Rattle.map_betas.specs.declared.loans.Loans.{Loans}
 use Rattle.map_betas.specs.Betas.{darts}
 use Rattle.map_betas.specs.Answers.{pass, isDone, andThen, tellOf}
-use Rattle.map_betas.specs.Maps.{sizeTest, breaks, breachAt, firstBreach, mapTest, WellFormed}
+use Rattle.map_betas.specs.Maps.{sizeTest, breaks, breachAt, firstBreach, mapTest}
 use Rattle.map_betas.specs.Guards.{loanTest, dartTest, guardOf, Ready}
 use Rattle.map_betas.proofs.MapLaws.{size-good, breach-clean}
 use Rattle.map_betas.proofs.Formed.{map-passes}

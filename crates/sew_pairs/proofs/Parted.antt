@@ -20,11 +20,10 @@ use Rattle.map_betas.specs.Maps.{WellFormed}
 use Rattle.map_betas.specs.Chains.{far, Chain, first}
 use Rattle.map_betas.proofs.Chains.{Ends, far-zero, far-suc, far-last, far-alike, chain-far, chain-round, chain-line}
 use Rattle.link_walk.specs.Three.{threeUnlinkOn}
-use Rattle.link_glue.specs.Matching.{ClosedChain, Unlinkable, Unlinked}
-use Rattle.link_glue.proofs.Found.{unlink-found}
+use Rattle.link_glue.specs.Matching.{ClosedChain}
 use Rattle.sew_pairs.specs.Pairs.{Pairs, pairsFrom}
 use Rattle.sew_pairs.specs.Three.{firstPairs, firstEnd, backPairs, pairsOf}
-use Rattle.sew_pairs.proofs.Relink.{had-image}
+use Rattle.sew_pairs.proofs.Relink.{did}
 use Rattle.sew_pairs.proofs.LegLaws.{leg-stops, one-pair}
 use Rattle.sew_pairs.proofs.Ends.{over, not-over, leg-far, first-ends, first-end, back-ends}
 use Rattle.sew_pairs.proofs.SplitLaws.{back-none, back-some}
@@ -77,12 +76,9 @@ module _ (rows : List ℕ) (ld : ℕ) (s : WellFormed rows) (nl : ld ≢ 0) (hl 
   abbrev rd : ℕ
   rd = beta rows 3 ld
 
-  did : Unlinkable rows ld × Unlinked rows ld cut
-  did = unlink-found rows ld rd s hl nl refl (had-image rows ld s nl hl t) t
-
   -- a 3-unlink changes beta 3 alone
   low : (i : ℕ) → i < 3 → (x d : ℕ) → far cut i x d ≡ far rows i x d
-  low i h = far-alike cut rows i (λ d. did .1 .lower i d h)
+  low i h = far-alike cut rows i (λ d. did rows ld s nl hl t .1 .lower i d h)
 
   -- m pairs follow that of ld and rd
   ahead : (m : ℕ) × (m < darts rows) × Ends rows 1 ld (beta rows 1 ld) m
@@ -107,7 +103,7 @@ module _ (rows : List ℕ) (ld : ℕ) (s : WellFormed rows) (nl : ld ≢ 0) (hl 
       let e : beta rows 1 (far rows 1 u ld) ≡ far rows 1 u (beta rows 1 ld) = sym (far-last rows 1 u ld) ∙ far-suc rows 1 u ld in
       far-last rows 0 u rd
       ∙ ap (beta rows 0) (fore-image u (omega arith))
-      ∙ did .0 .facing .steps (far rows 1 u ld) c (λ z. n .0 (sym e ∙ z)) (λ o z. n .1 (sym e ∙ z))
+      ∙ did rows ld s nl hl t .0 .facing .steps (far rows 1 u ld) c (λ z. n .0 (sym e ∙ z)) (λ o z. n .1 (sym e ∙ z))
       ∙ ap (beta rows 3) (sym (far-last rows 1 u ld))
 
   -- of an open face
@@ -135,8 +131,8 @@ module _ (rows : List ℕ) (ld : ℕ) (s : WellFormed rows) (nl : ld ≢ 0) (hl 
           let b : beta rows 1 y ≡ x = ap (beta rows 1) (far-last rows 0 u ld) ∙ s .back 0 x (omega arith) (λ q. ny (far-last rows 0 u ld ∙ q)) in
           let nx : x ≢ 0 = λ q. ny (far-last rows 0 u ld ∙ ap (beta rows 0) q ∙ s .null 0 (omega arith)) in
           let f : beta rows 0 (beta rows 3 y) ≡ beta rows 3 x =
-          did .0 .facing .steps y (rear (suc u) h) (λ q. nx (sym b ∙ q)) (λ c. absurd (not-closed c)) ∙ ap (beta rows 3) b in
-          let r : beta rows 0 (beta rows 3 y) ≢ 0 = λ q. did .0 .real x (rear u (omega arith)) (sym f ∙ q) in
+          did rows ld s nl hl t .0 .facing .steps y (rear (suc u) h) (λ q. nx (sym b ∙ q)) (λ c. absurd (not-closed c)) ∙ ap (beta rows 3) b in
+          let r : beta rows 0 (beta rows 3 y) ≢ 0 = λ q. did rows ld s nl hl t .0 .real x (rear u (omega arith)) (sym f ∙ q) in
           far-last rows 1 u rd
           ∙ ap (beta rows 1) (rear-image u (omega arith) ∙ sym f)
           ∙ s .back 0 (beta rows 3 y) (omega arith) r
@@ -144,7 +140,7 @@ module _ (rows : List ℕ) (ld : ℕ) (s : WellFormed rows) (nl : ld ≢ 0) (hl 
   -- ---- the same in the rows after the 3-unlink
 
   long : length cut ≡ length rows
-  long = did .1 .long
+  long = did rows ld s nl hl t .1 .long
 
   few : (n : ℕ) → n < darts rows → n ≤ length cut
   few n h = omega (arith, long, s .sized .whole)
@@ -162,13 +158,13 @@ module _ (rows : List ℕ) (ld : ℕ) (s : WellFormed rows) (nl : ld ≢ 0) (hl 
       _≡_ {A = ℕ × ℕ} (far cut i u (beta cut i ld), far cut j u (beta cut j rd)) (far rows i (suc u) ld, beta rows 3 (far rows i (suc u) ld))
   pair-at i j hi hj u e =
       let a : far cut i u (beta cut i ld) ≡ far rows i (suc u) ld =
-      low i hi u (beta cut i ld) ∙ ap (far rows i u) (did .1 .lower i ld hi) ∙ sym (far-suc rows i u ld) in
+      low i hi u (beta cut i ld) ∙ ap (far rows i u) (did rows ld s nl hl t .1 .lower i ld hi) ∙ sym (far-suc rows i u ld) in
       let b : far cut j u (beta cut j rd) ≡ beta rows 3 (far rows i (suc u) ld) =
-      low j hj u (beta cut j rd) ∙ ap (far rows j u) (did .1 .lower j rd hj) ∙ sym (far-suc rows j u rd) ∙ e in
+      low j hj u (beta cut j rd) ∙ ap (far rows j u) (did rows ld s nl hl t .1 .lower j rd hj) ∙ sym (far-suc rows j u rd) ∙ e in
       λ x. (a x, b x)
 
   first-legs : Ends cut 1 ld (beta cut 1 ld) m
-  first-legs = carry 1 ld m (beta rows 1 ld) (beta cut 1 ld) (omega arith) (did .1 .lower 1 ld (omega arith)) (ahead .2)
+  first-legs = carry 1 ld m (beta rows 1 ld) (beta cut 1 ld) (omega arith) (did rows ld s nl hl t .1 .lower 1 ld (omega arith)) (ahead .2)
 
   in-first : (u : ℕ) → u < m → InPairs (far rows 1 (suc u) ld, beta rows 3 (far rows 1 (suc u) ld)) (firstPairs cut ld rd)
   unfolding firstPairs
@@ -188,7 +184,7 @@ module _ (rows : List ℕ) (ld : ℕ) (s : WellFormed rows) (nl : ld ≢ 0) (hl 
   cut-end =
       leg-far cut 1 ld m (length cut) (beta cut 1 ld) (few m (ahead .1)) first-legs
       ∙ low 1 (omega arith) m (beta cut 1 ld)
-      ∙ ap (far rows 1 m) (did .1 .lower 1 ld (omega arith))
+      ∙ ap (far rows 1 m) (did rows ld s nl hl t .1 .lower 1 ld (omega arith))
 
   module _ (l r : ℕ) where
     abbrev Pair : Type 0
@@ -238,7 +234,8 @@ module _ (rows : List ℕ) (ld : ℕ) (s : WellFormed rows) (nl : ld ≢ 0) (hl 
     line-pairs z =
         let b = back-ends rows s ld hl (first-end rows s ld hl ∙ z) in
         let k : ℕ = b .0 in
-        let v : Ends cut 0 0 (beta cut 0 ld) k = carry 0 0 k (beta rows 0 ld) (beta cut 0 ld) (omega arith) (did .1 .lower 0 ld (omega arith)) (b .2) in
+        let v : Ends cut 0 0 (beta cut 0 ld) k =
+        carry 0 0 k (beta rows 0 ld) (beta cut 0 ld) (omega arith) (did rows ld s nl hl t .1 .lower 0 ld (omega arith)) (b .2) in
         let qs : Pairs = pairsFrom (length cut) cut 0 1 0 (beta cut 0 ld) (beta cut 1 rd) in
         let is : qs ≡ backPairs cut ld rd =
         back-some cut ld rd (eqb (firstEnd cut ld) 0) refl (beta cut 0 ld) (beta cut 1 rd) (eq-eqb (firstEnd cut ld) 0 (cut-end ∙ z)) refl refl in

@@ -1,6 +1,7 @@
 -- A 3-link after a 3-unlink.
 --   had-image   a 3-unlink that is done was of a dart with an image
 --   answers     and answers that image
+--   did         and found each dart of the chain facing its image, and parted exactly these pairs
 --   matches     what a 3-unlink has parted faces each other: the images before it are a matching
 --   relinks     a 3-link of ld and its former image, after a 3-unlink that is done, gives back every row
 -- Assumes nothing.
@@ -39,11 +40,11 @@ module _ (rows : List ℕ) (ld : ℕ) (s : WellFormed rows) (nl : ld ≢ 0) (hl 
   abbrev cut : List ℕ
   cut = threeUnlinkOn rows ld .rows
 
-  long : length cut ≡ length rows
-  long = unlink-kept rows ld s hl nl .1
-
-  did : Unlinkable rows ld × Unlinked rows ld cut
+  pub did : Unlinkable rows ld × Unlinked rows ld cut
   did = unlink-found rows ld (beta rows 3 ld) s hl nl refl had-image t
+
+  long : length cut ≡ length rows
+  long = did .1 .long
 
   to : {d : ℕ} → Chain cut ld d → Chain rows ld d
   to = chain-alike ld cut rows (λ i d h. did .1 .lower i d (omega arith))

@@ -1,19 +1,21 @@
 /*
  * Inkcapper: the dart and beta part of a 3-map, proved. C99.
  *
- * THE MAP. Rows are lent u32 numbers: beta 0, 1, 2, 3 of dart 0, then of dart 1, and so on. n is the
- * number of darts, the null dart 0 counted; 1 <= n <= 1,048,576. A map is well-formed if every image is
- * below n; row 0 is all 0; a non-null beta 1 image has beta 0 leading back, and the reverse; beta 2 and
- * beta 3 images, where non-null, lead back and are never the dart itself. Beta 1 may fix a dart.
+ * The exact rules are docs/SCOPE.md; "scope: 3-link" below is its paragraph of that name.
  *
- * ANSWERS. Every function returns one of the numbers below and always writes three values, 0 where
- * absent. When done, values[0] is the dart or yes/no answered (0 where none), values[1] the count written
- * (darts for orbits, lists and the reader, entries for plans; 0 where none) and values[2] is 0. Refusals
- * are tested in the order of their numbers: 1 to 5, then 6 to 10 as the walk meets them, then 11.
+ * THE MAP (scope: rows, map). Four u32 numbers for each dart, its images by beta 0 to 3, dart after dart.
+ * There are n darts with the null dart 0, from 1 to 1,048,576. They are a map if dart 0 has no image, each
+ * image is below n, and each leads back: beta 1 by beta 0 and beta 0 by beta 1, beta 2 and beta 3 by
+ * themselves. By beta 2 and beta 3 no dart is its own image; by beta 1 one may be.
  *
- * WHAT IS LEFT. After any refusal rows, vertices, plan and output are unchanged. Scratch (marks and
- * queue) is unchanged after 1 to 5; otherwise, after success too, its first n places are 0 and the rest
- * unchanged. Output and plan beyond the count are unchanged.
+ * ANSWERS (scope: numbers, order). Every function returns one of the numbers below and always writes three
+ * values, 0 where absent. When done, values[0] is the dart or yes/no answered (0 where none), values[1]
+ * the count written (darts for orbits, lists and the reader, entries for plans; 0 where none) and values[2]
+ * is 0. Refusals 1 to 5 come first, in that order, then 6 to 10, whichever is met first, and 11 last.
+ *
+ * WHAT IS LEFT (scope: what is left, scratch). A refusal leaves rows, vertices, plan and output as they
+ * were. A refusal from 1 to 5 leaves scratch (marks and queue) too; any other answer wipes its first n
+ * places to 0 and leaves the rest. Places of output and plan behind the count are never written.
  *
  * THE CALLER'S DUTIES. Everything else is tested by the call; these three it cannot test.
  *   Lengths: a slice is a pointer and a length in elements (not bytes), and that many elements can be
@@ -28,7 +30,7 @@
  * COSTS. Every call but the reads and the reader makes one pass over the rows first. Lists take time linear
  * in the darts, but for list_faces on faces that are not regular; what grows faster is said at the call.
  *
- * LOANS. Sizes are least sizes; more is allowed and left alone.
+ * LOANS (scope: loans). Sizes are least sizes; more is allowed and left alone.
  *   1 marks          n bytes      scratch
  *   2 queue          n u32        scratch
  *   3 output         n u32        where orbits and lists are written
@@ -37,9 +39,9 @@
  *   6 coordinates    3n doubles   x, y, z of each slot
  *   7 rows           4n u32       for the reader alone
  *
- * PLAN. What a sew or unsew asks of the caller's own stores, in order, as entries of four u32: a code,
- * then for a merge out, left in, right in, for a split left out, right out, in. A remainder of the lent
- * plan beyond whole entries is never touched.
+ * PLAN (scope: plan). What a sew or unsew asks of the caller's own stores, in order, as entries of four
+ * u32: a code; then for a merge the cell that stays, the left and the right one, for a split the left and
+ * the right one and the cell that they come from. Places behind the last whole entry are never written.
  */
 #ifndef INKCAPPER_H
 #define INKCAPPER_H
@@ -54,17 +56,17 @@ extern "C" {
 /* What a call returns; the comment gives values[0], values[1], values[2]. */
 enum inkcapper_number {
     INKCAPPER_DONE = 0,                /* dart or yes/no, count written */
-    INKCAPPER_BAD_SIZE = 1,            /* length: row length is 0, no multiple of 4, or n too large */
-    INKCAPPER_SHORT_LOAN = 2,          /* which loan: one other than the plan is below its size */
-    INKCAPPER_NOT_A_MAP = 3,           /* beta, dart: least dart, then least beta, whose image breaks a rule */
-    INKCAPPER_BAD_DART = 4,            /* first bad dart argument, 1 or 2: dart >= n, or 0 where a real one is asked for */
-    INKCAPPER_BAD_BETA = 5,            /* value: beta number above 3, alone or first in a list */
+    INKCAPPER_BAD_SIZE = 1,            /* how long the rows are: nothing, no multiple of 4, or too many darts */
+    INKCAPPER_SHORT_LOAN = 2,          /* which loan: the first that is too short; never the plan */
+    INKCAPPER_NOT_A_MAP = 3,           /* beta, dart: the first image that breaks a rule, by dart and then by beta */
+    INKCAPPER_BAD_DART = 4,            /* which dart argument, 1 or 2: not of the map, or 0 where that is refused */
+    INKCAPPER_BAD_BETA = 5,            /* the number: a beta above 3, alone or first in a list */
     INKCAPPER_NON_FREE_BASE = 6,       /* i, l, r: beta i of l is not null */
     INKCAPPER_NON_FREE_IMAGE = 7,      /* i, l, r: beta i of r is not null, or l = r under beta 2 or 3 */
     INKCAPPER_ALREADY_FREE = 8,        /* i, d: beta i of d is null */
     INKCAPPER_ASYMMETRICAL_FACES = 9,  /* ld, rd: the two faces do not go together */
     INKCAPPER_BAD_GEOMETRY = 10,       /* 2, ld, rd: the two edges do not point against each other */
-    INKCAPPER_PLAN_ROOM = 11,          /* entries needed: the finished plan has more entries than fit */
+    INKCAPPER_PLAN_ROOM = 11,          /* entries needed: more than the plan has room for */
     INKCAPPER_BAD_IMAGE = 12           /* header word 0 to 6, or 7 for flags, 8 for vertices */
 };
 
@@ -91,7 +93,7 @@ enum inkcapper_entry {
 /* The most darts that a map may have, the null dart counted. */
 #define INKCAPPER_MOST_DARTS 1048576
 
-/* ---- Reads: no map test, dart 0 allowed. Refusals 1, 4, 5. ---- */
+/* ---- Reads (scope: reads): the rows need not be a map, and dart 0 is allowed. Refusals 1, 4, 5. ---- */
 
 /* Answers the image of dart d under beta i. */
 uint32_t inkcapper_beta(const uint32_t *rows, size_t rows_len, uint32_t i, uint32_t d, uint64_t values[3]);
@@ -102,12 +104,13 @@ uint32_t inkcapper_is_i_free(const uint32_t *rows, size_t rows_len, uint32_t i, 
 /* Answers 1 if dart d has no image under any beta, else 0. */
 uint32_t inkcapper_is_free(const uint32_t *rows, size_t rows_len, uint32_t d, uint64_t values[3]);
 
-/* ---- The map test. Refusals 1, 3. ---- */
+/* ---- The map test (scope: map). Refusals 1, 3. ---- */
 
 /* Done, with nothing answered, if the rows are a well-formed map. */
 uint32_t inkcapper_check_map(const uint32_t *rows, size_t rows_len, uint64_t values[3]);
 
-/* ---- Links: real darts. Refusals 1, 3, 4, 6, 7, and 9 for the 3-link. ---- */
+/* ---- Links (scope: link core, 1-link, 2-link, 3-link): real darts.
+ *      Refusals 1, 3, 4, 6, 7, and 9 for the 3-link. ---- */
 
 /* Makes rd the beta 1 image of ld and ld the beta 0 image of rd; refuses 6 (1, ld, rd) if ld has a beta 1
  * image, else 7 (0, ld, rd) if rd has a beta 0 image. */
@@ -122,7 +125,8 @@ uint32_t inkcapper_two_link(uint32_t *rows, size_t rows_len, uint32_t ld, uint32
  * (3, l, r) at a pair that is not free, and 9 (ld, rd) where one side ends before the other. */
 uint32_t inkcapper_three_link(uint32_t *rows, size_t rows_len, uint32_t ld, uint32_t rd, uint64_t values[3]);
 
-/* ---- Unlinks: a real dart; each answers rd, the image taken away. Refusals 1, 3, 4, 8, and 9 for the 3-unlink. ---- */
+/* ---- Unlinks (scope: unlink core, 3-unlink): a real dart; each answers rd, the image taken away.
+ *      Refusals 1, 3, 4, 8, and 9 for the 3-unlink. ---- */
 
 /* Takes the beta 1 image of ld away, and with it the beta 0 image of that dart. */
 uint32_t inkcapper_one_unlink(uint32_t *rows, size_t rows_len, uint32_t ld, uint64_t values[3]);
@@ -134,9 +138,10 @@ uint32_t inkcapper_two_unlink(uint32_t *rows, size_t rows_len, uint32_t ld, uint
  * left dart is not beta 3 of its right one. */
 uint32_t inkcapper_three_unlink(uint32_t *rows, size_t rows_len, uint32_t ld, uint64_t values[3]);
 
-/* ---- Sews and unsews: real darts; links and unlinks with a plan. Scratch: marks and queue.
- * Refusals 1, 2, 3, 4, then as the links and unlinks inside them, then 11; after any of them the rows are
- * as before. Below, M of two images is the larger one: the one that there is, where the other is null. ---- */
+/* ---- Sews and unsews (scope: 1-sew to 3-unsew, room): real darts; links and unlinks with a plan.
+ * Scratch: marks and queue. Refusals 1, 2, 3, 4, then as the links and unlinks inside them, then 11; after
+ * any of them the rows are as before. Below, M of two images is the larger one: the one that there is, where
+ * the other is null (scope: far end). ---- */
 
 /* 1-links ld to rd and, if both have beta 3, beta 3 of rd to beta 3 of ld; refuses 6 and 7 as the 1-link
  * that meets them. At the new joint stand the vertex of M(beta 3, beta 2 of ld) and the vertex of rd, as they
@@ -189,7 +194,8 @@ uint32_t inkcapper_three_unsew(uint32_t *rows, size_t rows_len,
                                uint32_t *plan, size_t plan_len,
                                uint32_t ld, uint64_t values[3]);
 
-/* ---- Identifiers: dart 0 allowed, and answered with 0. Refusals 1 to 4. Scratch: marks and queue. ---- */
+/* ---- Identifiers (scope: identifier, face_id): dart 0 allowed, and answered with 0. Refusals 1 to 4.
+ *      Scratch: marks and queue. ---- */
 
 /* Answers the least dart of the Vertex orbit of d. */
 uint32_t inkcapper_vertex_id(const uint32_t *rows, size_t rows_len,
@@ -204,7 +210,7 @@ uint32_t inkcapper_edge_id(const uint32_t *rows, size_t rows_len,
                            uint32_t d, uint64_t values[3]);
 
 /* Answers the face of d as honeycomb's face_id walks it, which is not always the least dart of the Face
- * orbit: on an open face the walk backward takes no minimum over the first darts it stands on. */
+ * orbit: the two darts at which its leg back begins on an open face are not asked for the minimum. */
 uint32_t inkcapper_face_id(const uint32_t *rows, size_t rows_len,
                            uint8_t *marks, size_t marks_len,
                            uint32_t *queue, size_t queue_len,
@@ -216,8 +222,9 @@ uint32_t inkcapper_volume_id(const uint32_t *rows, size_t rows_len,
                              uint32_t *queue, size_t queue_len,
                              uint32_t d, uint64_t values[3]);
 
-/* ---- Orbits: the darts reached from d, first found first, beginning with d; the orbit of 0 is the single
- *      0. Dart 0 allowed. Refusals 1 to 4. Scratch: marks. In "b1b2" the inner beta is last. ---- */
+/* ---- Orbits (scope: steps, orbit): d and what the steps lead to from it, in the order in which it is
+ *      found; dart 0 is allowed, and alone in its orbit. Refusals 1 to 4. Scratch: marks. In b1b2 the inner
+ *      beta is last. ---- */
 
 /* Writes the orbit of d under b1b2, b2b0, b1b3, b3b0, b2b3, b3b2. */
 uint32_t inkcapper_orbit_vertex(const uint32_t *rows, size_t rows_len,
@@ -261,15 +268,15 @@ uint32_t inkcapper_orbit_volume_linear(const uint32_t *rows, size_t rows_len,
                                        uint32_t *output, size_t output_len,
                                        uint32_t d, uint64_t values[3]);
 
-/* Writes the orbit of d under the listed betas in order, possibly none; refuses 5 with the first listed
- * number above 3, after 4. */
+/* Writes the orbit of d under lent betas, in their order; there may be none. Refuses 5, after 4, with the
+ * first of them that is above 3. */
 uint32_t inkcapper_orbit_custom(const uint32_t *rows, size_t rows_len,
                                 uint8_t *marks, size_t marks_len,
                                 uint32_t *output, size_t output_len,
                                 const uint8_t *betas, size_t betas_len,
                                 uint32_t d, uint64_t values[3]);
 
-/* ---- Cell lists: every d from 1 to n-1 that is not unused and is its own identifier, ascending. Refusals
+/* ---- Lists of cells (scope: list): the real darts in use that name their own cell, ascending. Refusals
  *      1 to 3. Scratch: marks and queue. ---- */
 
 /* Writes the vertices. */
@@ -302,7 +309,7 @@ uint32_t inkcapper_list_volumes(const uint32_t *rows, size_t rows_len,
                                 uint32_t *output, size_t output_len,
                                 const uint8_t *flags, size_t flags_len, uint64_t values[3]);
 
-/* ---- The reader ---- */
+/* ---- The reader (scope: form 1, reader) ---- */
 
 /* Reads a stored image of form 1: writes n darts' rows, flags (0 or 1), vertex marks (0 or 1) and
  * coordinates (positive 0 where no vertex) and no more, and counts n. Refuses 12 with the first wrong

@@ -7,11 +7,11 @@ The answers are printed by the comparison program of rig/compare:
      compare wrong 600 1) | make.py > crates/test_replay/stdin
 
 The published Rust's own are every call on all maps of one and of two real darts, every 41st call on all maps of
-three, and every 3001st on all maps of four; then 2-sews with the coordinates of document 01's two lines, every 23rd on
+three, and every 3001st on all maps of four; then 2-sews with the coordinates of the two worked 2-sews, every 23rd on
 all maps of three real darts and every 2003rd on all maps of four. Calls without a C name (in parentheses) are left out.
 Behind them come 600 of the model's refusals 1, 3, 4 and 5, which the Rust does not have (2 needs loans of other
 lengths than the program lends), every tenth sew or unsew that wrote a plan once more with one word too little room,
-which is refusal 11, and document 01's lines that are not marked P: a 3-unsew with room for three entries, and two 2-sews
+which is refusal 11, and three of the worked examples (scope: examples): a 3-unsew with room for three entries, and two 2-sews
 with coordinates.
 
 A record is a row of bytes, one for each number (all are below 256; another ends this script):
@@ -20,7 +20,7 @@ A record is a row of bytes, one for each number (all are below 256; another ends
     then the betas of a custom orbit, 4n rows before, 4n rows after, and the words written (plan or list).
 
 operation: its place in CALLS, counted from 1. n: darts, the null dart among them. a and b: the call's numbers
-in their order, 0 where absent. points: 0 for no vertices, 1 and 2 for the coordinates of document 01's two
+in their order, 0 where absent. points: 0 for no vertices, 1 and 2 for the coordinates of the two worked
 2-sews. room: the words of plan that are lent. betas and written: how many of each follow.
 
 What was made, by call and number, goes to standard error.
@@ -58,8 +58,8 @@ def chains(n, *links):
     return rows
 
 
-def document():
-    """Document 01's lines that are not marked P."""
+def worked():
+    """Three of the worked examples: a plan without room, and both 2-sews."""
     pair = chains(3, (3, 1, 2))
     yield "three_unsew", [1], pair, [11, 4, 0, 0], pair, [], 0, 12
     open_faces = [(1, 1, 2), (1, 3, 4)]
@@ -92,7 +92,7 @@ def main():
     made = collections.Counter()
     out = bytearray()
     printed = list(answers(sys.stdin))
-    for parts in [*printed, *without_room(printed), *document()]:
+    for parts in [*printed, *without_room(printed), *worked()]:
         out += record(*parts)
         made[parts[0], parts[3][0]] += 1
     assert len(out) <= LARGEST

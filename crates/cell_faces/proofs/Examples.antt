@@ -6,7 +6,7 @@ use mathlib.Core.List.{List, [], _∷_}
 use Rattle.cell_steps.specs.Search.{mem, add}
 use Rattle.cell_faces.specs.Faces.{fresh, insert, lower, turn, leg, forward, backward, faceWalk, faceId, regularFrom, regular}
 
--- the open chain 1, 2: "face of 2; of 1" is "2; 1"
+-- the open chain 1, 2: the face of 2 is 2, that of 1 is 1
 open-two : List ℕ
 open-two = 0 ∷ 0 ∷ 0 ∷ 0 ∷ 0 ∷ 2 ∷ 0 ∷ 0 ∷ 1 ∷ 0 ∷ 0 ∷ 0 ∷ []
 

@@ -1,7 +1,7 @@
 -- Regular faces: the test finds them, and a whole face is regular where one of its darts is.
 --   regular-sound, regular-complete   the test passes exactly where the face is regular
 --   regular-spread                    what a dart of a regular face reaches by the face's steps is regular too
---   regular-alone, regular-paired     the two cases of document 01
+--   regular-alone, regular-paired     its two cases: no dart is faced, or all are and face each other
 --   face-id-least                     there the face identifier is the least dart of the Face orbit
 --   face-null                         the face identifier of the null dart is 0
 -- Assumes nothing.
@@ -164,7 +164,7 @@ module _ (rows : List ℕ) (w : WellFormed rows) where
   regular-spread {a} lt real v (ReflTransGenᴰ·tail {b = b} {c = c} r t) =
       step-regular b c (reach-below rows face (w .below) a lt r) (reach-real rows face real r) (regular-spread lt real v r) t
 
-  -- ---- document 01's two cases, and what follows
+  -- ---- the two cases of a regular face, and what follows
 
   module _ (d : ℕ) (closed : (x : ℕ) → Chain rows d x → beta rows 1 x ≡ 0 → ⊥) where
     pub regular-alone : ((x : ℕ) → Chain rows d x → beta rows 3 x ≡ 0) → Regular rows d

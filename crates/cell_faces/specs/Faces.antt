@@ -22,7 +22,7 @@ use Rattle.cell_steps.specs.Loans.{Grown}
 unfoldable pub fresh : List ℕ → ℕ → Bool
 fresh s x = not (eqb x 0 || mem x s)
 
--- `marked.insert(lb) || marked.insert(rb)`: "a left dart that is new is marked and the right one is then not"
+-- the text's `marked.insert(lb) || marked.insert(rb)`: the right dart is marked only where the left one was there already
 unfoldable pub insert : List ℕ → ℕ → ℕ → List ℕ
 unfolding fresh
 insert s l r = cond (fresh s l) (add s l) (add s r)
@@ -56,7 +56,7 @@ leg rows i j (suc f) w =
 unfoldable pub forward : List ℕ → List ℕ → ℕ → Walk
 forward rows s d = leg rows 1 0 (darts rows) (record { seen = s; l = d; r = beta rows 3 d; low = lower d (beta rows 3 d) })
 
--- "its backward leg takes no minimum over the first darts it stands on"
+-- scope: face_id. The leg back begins beside d and its image, with the minimum as it was: the two darts that it begins at are not in it.
 unfoldable pub backward : List ℕ → ℕ → Walk → Walk
 backward rows d w =
     leg rows 0 1 (darts rows) (record { seen = w .seen; l = beta rows 0 d; r = beta rows 1 (beta rows 3 d); low = w .low })
@@ -68,12 +68,12 @@ faceWalk rows s d =
     let b = backward rows d w in
     cond (eqb (w .l) 0) b (cond (eqb (w .r) 0) b w)
 
--- "`face_id` follows the Rust even where it isn't least"
+-- scope: face_id. The minimum of the walk, whether or not it is the face's least.
 unfoldable pub faceId : List ℕ → ℕ → ℕ
 faceId rows d = faceWalk rows [] d .low
 
--- "Where the chain is closed and either none of its darts has a beta 3 image, or all have and each beta 1 step is a beta 0 step between their
--- images": null images of beta 3 follow each other too, so that one law serves both cases (`proofs/RegularLaws.antt`)
+-- Faces whose identifier is the least: closed chains without beta 3 images, or with all of them and facing each other dart by dart.
+-- Null images of beta 3 follow each other too, so that one law serves both cases (`proofs/RegularLaws.antt`).
 pub record Regular (rows : List ℕ) (d : ℕ) : Type 0 where
   pub closed : (x : ℕ) → Chain rows d x → beta rows 1 x ≡ 0 → ⊥
   pub across : (x : ℕ) → Chain rows d x → beta rows 3 (beta rows 1 x) ≡ beta rows 0 (beta rows 3 x)

@@ -14,14 +14,14 @@ use Rattle.map_betas.specs.Betas.{darts}
 use Rattle.cell_steps.specs.Search.{In}
 use Rattle.cell_steps.specs.Idents.{ident}
 
--- "not unused whose identifier is d, ascending"; a flag that is not 0 means unused
+-- the first f darts from d on that are in use and are their own identifier; a flag that is not 0 means unused (scope: flags)
 unfoldable pub cellsFrom : (ℕ → ℕ) → List ℕ → ℕ → ℕ → List ℕ
 cellsFrom id flags d zero = []
 cellsFrom id flags d (suc f) =
     let rest = cellsFrom id flags (d + 1) f in
     cond (eqb (getD flags d 0) 0 && eqb (id d) d) (d ∷ rest) rest
 
--- "A cell list is every d from 1 to n-1 not unused whose identifier is d, ascending."
+-- scope: list. Dart 0 is never listed.
 unfoldable pub cellsBy : (ℕ → ℕ) → ℕ → List ℕ → List ℕ
 unfolding cellsFrom
 cellsBy id n flags = cellsFrom id flags 1 (n - 1)

@@ -17,7 +17,7 @@ use Rattle.cell_steps.specs.declared.cells.Class.the-variants.{Vertex, Edge, Fa
 use Rattle.cell_names.specs.Cells.{listOf}
 use Rattle.cell_names.specs.Calls.{idCall, listCall}
 
--- "Image of a closed triangle 1, 2, 3": vertices 1 2 3, edges 1 2 3, faces 1, volumes 1
+-- the closed triangle 1, 2, 3: vertices 1 2 3, edges 1 2 3, faces 1, volumes 1
 triangle : List ℕ
 triangle = 0 ∷ 0 ∷ 0 ∷ 0 ∷ 3 ∷ 2 ∷ 0 ∷ 0 ∷ 1 ∷ 3 ∷ 0 ∷ 0 ∷ 2 ∷ 1 ∷ 0 ∷ 0 ∷ []
 

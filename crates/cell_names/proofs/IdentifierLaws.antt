@@ -30,7 +30,7 @@ use Rattle.cell_steps.specs.declared.cells.Class.{Class}
 use Rattle.cell_steps.specs.declared.cells.Class.the-variants.{Vertex, Edge, Face, Volume}
 use Rattle.cell_names.specs.Cells.{identOf, listOf}
 
--- "Vertex, edge and volume identifiers are the least dart of the orbit"
+-- the identifiers that are least by definition, seen as least in the manual's cells
 pub record Least (rows : List ℕ) (Φ : List (List ℕ)) (d x : ℕ) : Type 0 where
   pub inside : Orbit rows Φ d x
   pub lowest : (y : ℕ) → Orbit rows Φ d y → x ≤ y
@@ -48,7 +48,7 @@ module _ (rows : List ℕ) (w : WellFormed rows) where
   pub volume-least : (d : ℕ) → d < darts rows → Least rows volumeΦ d (identOf Volume rows d)
   volume-least = least-of volume volumeΦ volume-serves
 
-  -- "Where the chain is closed and .. it is proved least of the Face orbit." (`faces/proofs/RegularLaws.antt` has the two cases.)
+  -- the faces of which `face_id` is least (`cell_faces/proofs/RegularLaws.antt` has the two cases)
   pub face-least : (d : ℕ) → d < darts rows → (d ≡ 0 → ⊥) → Regular rows d → Least rows faceΦ d (identOf Face rows d)
   face-least d h real v = subst (Least rows faceΦ d) (sym (face-id-least rows w d h real v)) (least-of face faceΦ face-serves d h)
 
@@ -65,14 +65,14 @@ module _ (rows : List ℕ) (w : WellFormed rows) where
   are-steps : (p : OrbitPolicy) (c : ℕ) → In c (stepsOf p) → IsStep c
   are-steps p c m = let q = at-in m in subst IsStep (q .2) (steps-are p .each (q .0) (q .1))
 
-  -- "of 0, 0"
+  -- the null dart is its own identifier
   pub null-ident : (class : Class) → identOf class rows 0 ≡ 0
   null-ident Vertex = ident-null rows w vertex (are-steps policy.Vertex)
   null-ident Edge = ident-null rows w edge (are-steps policy.Edge)
   null-ident Face = face-null rows w
   null-ident Volume = ident-null rows w volume (are-steps policy.Volume)
 
--- "every d from 1 to n-1 not unused whose identifier is d, ascending", for any rows
+-- what is in a list, and in which order, for any rows (scope: list)
 module _ (rows flags : List ℕ) where
   pub listed-exactly : (class : Class) (x : ℕ) → In x (listOf class rows flags) ↔ ((1 ≤ x) × (x < darts rows) × members.Own (identOf class rows) flags x)
   listed-exactly Vertex x = members.listed-exactly (ident rows vertex) flags (darts rows) x

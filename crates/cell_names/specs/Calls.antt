@@ -13,7 +13,7 @@ use Rattle.cell_steps.specs.Calls.{wiped, headed}
 use Rattle.cell_steps.specs.declared.cells.Class.{Class}
 use Rattle.cell_names.specs.Cells.{identOf, listOf}
 
--- "Scratch: .. after success too, its first n places are 0 and the rest unchanged."
+-- what an identifier leaves once its tests have passed (scope: scratch)
 abbrev pub idDone : List ℕ → List ℕ → List ℕ → Class → ℕ → Outcome (List ℕ × List ℕ)
 idDone rows marks queue class d = outcome (Done (identOf class rows d) 0) (wiped (darts rows) marks, wiped (darts rows) queue)
 
@@ -23,7 +23,7 @@ idGuard rows marks queue d = guardOf rows (scratchOf (length marks) (length queu
 unfoldable pub idCall : List ℕ → List ℕ → List ℕ → Class → ℕ → Outcome (List ℕ × List ℕ)
 idCall rows marks queue class d = behind (idGuard rows marks queue d) (marks, queue) (idDone rows marks queue class d)
 
--- the count is the list's own length, and "output .. beyond the count [is] unchanged"
+-- the count is the list's own length, and the output beyond it stays as it was
 abbrev pub listDone : List ℕ → List ℕ → List ℕ → List ℕ → List ℕ → Class → Outcome (List ℕ × List ℕ × List ℕ)
 listDone rows marks queue output flags class =
     outcome (Done 0 (length (listOf class rows flags)))

@@ -19,14 +19,14 @@ isFace Edge = false
 isFace Face = true
 isFace Volume = false
 
--- "Vertex, edge and volume identifiers are the least dart of the orbit"; "`face_id` follows the Rust even where it isn't least"
+-- the identifier of each class: the least of its orbit, but for faces, which go by the published walk (scope: identifier, face_id)
 abbrev pub identOf : Class → List ℕ → ℕ → ℕ
 identOf Vertex rows d = ident rows vertex d
 identOf Edge rows d = ident rows edge d
 identOf Face rows d = faceId rows d
 identOf Volume rows d = ident rows volume d
 
--- "A cell list is every d from 1 to n-1 not unused whose identifier is d, ascending."
+-- the list of each class (scope: list)
 abbrev pub listOf : Class → List ℕ → List ℕ → List ℕ
 listOf Vertex rows flags = cellsBy (ident rows vertex) (darts rows) flags
 listOf Edge rows flags = cellsBy (ident rows edge) (darts rows) flags

@@ -47,7 +47,7 @@ beta-call : customCall triangle (7 ∷ 7 ∷ 7 ∷ 7 ∷ []) (9 ∷ 9 ∷ 9 ∷ 
 unfolding triangle badSize breaks breachAt firstBreach mapTest loanTest noDart guardOf customTest customCall
 beta-call = refl
 
--- "Custom: the listed betas in order, possibly none."
+-- lent betas are steps, in their order
 none-call : customCall triangle (7 ∷ 7 ∷ 7 ∷ 7 ∷ []) (9 ∷ 9 ∷ 9 ∷ 9 ∷ []) [] 1 ≡ outcome (Done 0 1) (0 ∷ 0 ∷ 0 ∷ 0 ∷ [], 1 ∷ 9 ∷ 9 ∷ 9 ∷ [])
 unfolding triangle image mem add visit search orbit badSize breaks breachAt firstBreach mapTest loanTest noDart guardOf customTest customCall
 none-call = refl

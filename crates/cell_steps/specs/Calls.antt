@@ -19,11 +19,11 @@ use Rattle.cell_steps.specs.declared.policy.OrbitPolicy.{OrbitPolicy}
 use Rattle.cell_steps.specs.Steps.{stepsOf}
 use Rattle.cell_steps.specs.Search.{orbit}
 
--- "its first n places are 0 and the rest unchanged"
+-- scope: scratch. The first n places are 0, and the rest is as it was.
 abbrev pub wiped : ℕ → List ℕ → List ℕ
 wiped n l = replicate n 0 ++ drop n l
 
--- "Output .. beyond the count [is] unchanged."
+-- a list from the start of a loan, whose other places stay as they were
 abbrev pub headed : List ℕ → List ℕ → List ℕ
 headed l out = l ++ drop (length l) out
 
@@ -32,7 +32,7 @@ abbrev pub orbitDone : List ℕ → List ℕ → List ℕ → List ℕ → ℕ �
 orbitDone rows marks output steps d =
     outcome (Done 0 (length (orbit rows steps d))) (wiped (darts rows) marks, headed (orbit rows steps d) output)
 
--- "beta number above 3, .. first in a Custom list"
+-- refusal 5 says the first number in the list that is no beta
 unfoldable pub customTest : List ℕ → Answer
 customTest [] = pass
 customTest (b ∷ bs) =
@@ -46,7 +46,7 @@ unfoldable pub orbitCall : List ℕ → List ℕ → List ℕ → OrbitPolicy �
 orbitCall rows marks output policy d =
     behind (orbitGuard rows marks output d) (marks, output) (orbitDone rows marks output (stepsOf policy) d)
 
--- "Custom: the listed betas in order, possibly none."
+-- an orbit by lent betas, which are tested after the darts (scope: steps, order)
 unfoldable pub customCall : List ℕ → List ℕ → List ℕ → List ℕ → ℕ → Outcome (List ℕ × List ℕ)
 customCall rows marks output betas d =
     behind (andThen (orbitGuard rows marks output d) (customTest betas)) (marks, output) (orbitDone rows marks output betas d)

@@ -20,7 +20,7 @@ unfolding leastFrom
 least [] = 0
 least (x ∷ l) = leastFrom x l
 
--- "Vertex, edge and volume identifiers are the least dart of the orbit; of 0, 0."
+-- scope: identifier. The orbit of 0 is 0 alone, and so its identifier is 0.
 unfoldable pub ident : List ℕ → List ℕ → ℕ → ℕ
 ident rows steps d = least (orbit rows steps d)
 

@@ -58,7 +58,7 @@ pub record Grown (out : List ℕ) (k : ℕ) (l marks′ out′ : List ℕ) (r : 
 pub record Cleared (l m₀ m : List ℕ) : Type 0 where
   pub mark : (x : ℕ) → getD m x 0 ≡ cond (mem x l) 0 (getD m₀ x 0)
 
--- "Output .. beyond the count [is] unchanged", and the count is the list's own length
+-- the count is the list's own length, and the output beyond it stays as it was
 pub record Listed (l out out′ : List ℕ) (r : ℕ) : Type 0 where
   pub count : r ≡ length l
   pub places : out′ ≡ l ++ drop (length l) out

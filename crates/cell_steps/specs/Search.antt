@@ -28,12 +28,12 @@ unfoldable pub mem : ℕ → List ℕ → Bool
 mem x [] = false
 mem x (y ∷ ys) = eqb x y || mem x ys
 
--- "null images dropped"; "first found first"
+-- an image joins behind what was found before it, unless it is null or was found
 unfoldable pub add : List ℕ → ℕ → List ℕ
 unfolding mem
 add l x = cond (eqb x 0 || mem x l) l (l ++ (x ∷ []))
 
--- "Steps from d, in this order"
+-- the images of d by each step, in the steps' order (scope: steps)
 unfoldable pub visit : List ℕ → List ℕ → ℕ → List ℕ → List ℕ
 visit rows [] d l = l
 visit rows (s ∷ ss) d l = visit rows ss d (add l (image rows s d))
@@ -45,7 +45,7 @@ search rows steps (suc f) k l =
     let more = search rows steps f (k + 1) (visit rows steps (getD l k 0) l) in
     cond (ltb k (length l)) more l
 
--- "An orbit lists darts first found first, beginning with d". `proofs/OrbitLaws.antt` has that as many visits as there are darts are enough.
+-- scope: orbit. `proofs/OrbitLaws.antt` has that as many visits as there are darts are enough.
 unfoldable pub orbit : List ℕ → List ℕ → ℕ → List ℕ
 unfolding search
 orbit rows steps d = search rows steps (darts rows) 0 (d ∷ [])

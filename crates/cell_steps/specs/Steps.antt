@@ -19,7 +19,7 @@ use Rattle.cell_steps.specs.declared.policy.Steps.{Steps}
 use Rattle.cell_steps.specs.declared.cells.Class.{Class}
 use Rattle.cell_steps.specs.declared.cells.Class.the-variants as class
 
--- "b1b2 (inner beta last)"; a step by one beta is that beta's own number, so that a Custom list of betas is its own list of steps
+-- two betas as one number, the outer one first; one beta is its own number, so that lent betas are a list of steps as they stand
 abbrev pub step : ℕ → ℕ → ℕ
 step i j = 16 * i + j
 
@@ -29,31 +29,31 @@ image rows c d = cond (ltb c 16) (beta rows c d) (beta rows (c / 16) (beta rows 
 unfoldable pub IsStep : ℕ → Type 0
 IsStep c = (c < 64) × (c % 16 < 4)
 
--- "Vertex b1b2, b2b0, b1b3, b3b0, b2b3, b3b2 (inner beta last)"
+-- the steps of each policy, in the order of the search (scope: steps): each generator of the cell and its inverse
 abbrev pub vertex : List ℕ
 vertex = step 1 2 ∷ step 2 0 ∷ step 1 3 ∷ step 3 0 ∷ step 2 3 ∷ step 3 2 ∷ []
 
--- "VertexLinear b1b2, b1b3, b2b3"
+-- a linear policy leaves the inverses out
 abbrev pub vertexLinear : List ℕ
 vertexLinear = step 1 2 ∷ step 1 3 ∷ step 2 3 ∷ []
 
--- "Edge b2, b3"
+-- beta 2 and beta 3 are their own inverses
 abbrev pub edge : List ℕ
 edge = 2 ∷ 3 ∷ []
 
--- "Face b1, b0, b3"
+-- beta 0 is the inverse of beta 1
 abbrev pub face : List ℕ
 face = 1 ∷ 0 ∷ 3 ∷ []
 
--- "FaceLinear b1, b3"
+-- Face without its inverse
 abbrev pub faceLinear : List ℕ
 faceLinear = 1 ∷ 3 ∷ []
 
--- "Volume b1, b0, b2"
+-- beta 1, its inverse, and beta 2
 abbrev pub volume : List ℕ
 volume = 1 ∷ 0 ∷ 2 ∷ []
 
--- "VolumeLinear b1, b2"
+-- Volume without its inverse
 abbrev pub volumeLinear : List ℕ
 volumeLinear = 1 ∷ 2 ∷ []
 
@@ -70,7 +70,7 @@ stepsOf Custom = []
 abbrev pub codesOf : OrbitPolicy → Steps
 codesOf p = record { codes = take 6 (stepsOf p ++ replicate 6 0); count = length (stepsOf p) }
 
--- "Custom: the listed betas in order, possibly none."
+-- the steps of a policy; those of `Custom` are lent
 abbrev pub stepsBy : OrbitPolicy → List ℕ → List ℕ
 stepsBy Vertex steps = vertex
 stepsBy VertexLinear steps = vertexLinear

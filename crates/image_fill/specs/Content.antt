@@ -27,7 +27,7 @@ slots marks coordinates = record { marks = marks; coordinates = coordinates }
 abbrev pub over : Slots → List ℕ → List Float → Slots
 over s marks coordinates = slots (s .marks ++ marks) (s .coordinates ++ coordinates)
 
--- "positive 0 where no vertex"
+-- what stands in the coordinates of a slot without a point
 abbrev pub plusZero : Float
 plusZero = ofBits binary64 0
 
@@ -43,7 +43,7 @@ emptySlots n = slots (noMarks n) (noCoordinates n)
 abbrev pub putPoint : List Float → ℕ → Float → Float → Float → List Float
 putPoint coordinates d x y z = set (set (set coordinates (3 * d) x) (3 * d + 1) y) (3 * d + 2) z
 
--- "vertex marks (0 or 1)"
+-- a record's slot: mark 1, and its three coordinates
 unfoldable pub putRecord : List ℕ → ℕ → Slots → Slots
 putRecord bytes at s =
     slots (set (s .marks) (recordDart bytes at) 1)

@@ -21,11 +21,11 @@ pub record Form : Type 0 where
   pub number : ℕ
   pub rowBytes : ℕ
 
--- "form 1": four images of four bytes
+-- four images of four bytes for each dart (scope: form 1)
 abbrev pub form1 : Form
 form1 = record { number = 1; rowBytes = 16 }
 
--- "row offset 28, flag offset 28+16n, .. vertex offset 28+17n", "Total is 28+17n+28v."
+-- where rows, flags and records begin, and how many bytes there are in all (scope: form 1)
 abbrev pub rowOffset : ℕ
 rowOffset = 28
 
@@ -38,7 +38,7 @@ vertexOffset f n = flagOffset f n + n
 abbrev pub totalBytes : Form → ℕ → ℕ → ℕ
 totalBytes f n v = vertexOffset f n + 28 * v
 
--- "Seven u32 header words: form 1, total bytes, n, row offset .., flag offset .., vertex count v, vertex offset .."
+-- word k of the seven (scope: form 1): form, bytes in all, n, where the rows and the flags are, v, where the records are
 abbrev pub headerWord : List ℕ → ℕ → ℕ
 headerWord bytes k = word32 bytes (4 * k)
 
@@ -48,7 +48,7 @@ dartsOf bytes = headerWord bytes 2
 abbrev pub verticesOf : List ℕ → ℕ
 verticesOf bytes = headerWord bytes 5
 
--- "Then rows, n flag bytes .., v records of 28 bytes: dart u32, three f64."
+-- the blocks behind the header: the rows, then the flags, then the records
 abbrev pub rowsOf : List ℕ → ℕ → List ℕ
 rowsOf bytes n = wordsAt bytes rowOffset (4 * n)
 
@@ -77,17 +77,17 @@ pub record Header (f : Form) (most : ℕ) (bytes : List ℕ) : Type 0 where
   pub fits : length bytes ≡ totalBytes f (dartsOf bytes) (verticesOf bytes)
   pub verticesStart : headerWord bytes 6 ≡ vertexOffset f (dartsOf bytes)
 
--- "n flag bytes (0 or 1, dart 0's is 0)"
+-- each flag is 0 or 1, and dart 0 is in use
 pub record Flags (bytes : List ℕ) (n : ℕ) : Type 0 where
   pub null : flagAt bytes n 0 ≡ 0
   pub each : (d : ℕ) → d < n → flagAt bytes n d ≤ 1
 
--- a record of a dart below n; "NaN and infinities are refused."
+-- a record of a dart below n, whose numbers are finite
 pub record Sound (bytes : List ℕ) (n at : ℕ) : Type 0 where
   pub below : recordDart bytes at < n
   pub finite : (j : ℕ) → j < 3 → finite (recordCoordinate bytes at j) ≡ true
 
--- "Darts ascend strictly, from 1 to n-1."
+-- records of real darts, ascending
 pub record Vertices (bytes : List ℕ) (n v : ℕ) : Type 0 where
   pub real : (k : ℕ) → k < v → 1 ≤ recordDart bytes (recordAt n k)
   pub ascend : (j k : ℕ) → j < k → k < v → recordDart bytes (recordAt n j) < recordDart bytes (recordAt n k)

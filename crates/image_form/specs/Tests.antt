@@ -1,7 +1,7 @@
 -- What refuses an image by itself, each test as the reader makes it.
 --   unless good k more     BadImage k, unless `good`: then `more`
 --   startTest, layoutTest  the header's words 0 and 1; words 2 to 6
---   headerTest most bytes  "BadImage names the first wrong header word", for an image of at most `most` darts
+--   headerTest most bytes  refuses the first header word that is wrong, for an image of at most `most` darts
 --   bitsOnly k bytes at    whether k bytes are 0 or 1
 --   flagsTest, verticesTest   BadImage 7 and 8
 --   recordGood bytes n at last   whether the record at a place is one whose dart comes behind `last`
@@ -22,7 +22,7 @@ use Rattle.image_form.specs.Form.{headerWord, dartsOf, verticesOf, flagA
 unfoldable pub unless : Bool → ℕ → Answer → Answer
 unless good k more = cond good more (Refused (BadImage k))
 
--- "fewer than 28 bytes, or a total other than the bytes lent, is word 1 (after word 0 where four bytes stand)"
+-- words 0 and 1 (scope: reader): the form where its four bytes are there, then whether the bytes are as many as they say
 unfoldable pub startTest : List ℕ → Answer
 startTest bytes =
     unless (leb 4 (length bytes)) 1
@@ -30,7 +30,7 @@ startTest bytes =
     (unless (leb 28 (length bytes)) 1
     (unless (eqb (headerWord bytes 1) (length bytes)) 1 pass)))
 
--- "n outside its limit word 2; v above n-1, or not fitting the total, word 5"
+-- words 2 to 6: how many darts and records there are, and where their blocks begin
 unfoldable pub layoutTest : ℕ → List ℕ → Answer
 layoutTest most bytes =
     unless (leb 1 (dartsOf bytes)) 2
@@ -48,11 +48,11 @@ unfoldable pub bitsOnly : ℕ → List ℕ → ℕ → Bool
 bitsOnly zero bytes at = true
 bitsOnly (suc k) bytes at = let more = bitsOnly k bytes (at + 1) in leb (getD bytes at 0) 1 && more
 
--- "n flag bytes (0 or 1, dart 0's is 0)"
+-- 12 (7): the flag of dart 0 first, then that each is 0 or 1
 unfoldable pub flagsTest : List ℕ → ℕ → Answer
 flagsTest bytes n = unless (eqb (flagAt bytes n 0) 0) 7 (unless (bitsOnly n bytes (flagOffset form1 n)) 7 pass)
 
--- "Darts ascend strictly, from 1 to n-1. .. NaN and infinities are refused."
+-- a record whose dart is behind the last one's and below n, with three numbers that are finite
 unfoldable pub recordGood : List ℕ → ℕ → ℕ → ℕ → Bool
 recordGood bytes n at last =
     ltb last (recordDart bytes at)

@@ -1,4 +1,4 @@
--- The worked image of document 01, and refusals, computed. Assumes nothing.
+-- The image of the closed triangle, and refusals, computed. Assumes nothing.
 --   triangle        the closed triangle 1, 2, 3 with no vertex: header 1 96 4 28 92 0 96
 --   triangle-read   it is read: (0, 4), its rows, no flag, no vertex, and the places behind unchanged
 --   pair            one real dart, flagged, with a vertex at (1, -0, 2)

@@ -2,7 +2,7 @@
 --   Accepted   the tests pass exactly for images of well-formed maps, with loans that are long enough
 --   ReadLaws   each case of a reading
 --   Written    what a reading answers and writes
---   Examples   the worked image of document 01, and refusals
+--   Examples   the image of the closed triangle, and refusals
 pub mod Accepted
 pub mod ReadLaws
 pub mod Written

@@ -33,7 +33,7 @@ Read = Outcome Loaded
 abbrev pub readOut : Answer → List ℕ → List ℕ → List Float → List ℕ → Read
 readOut a flags vertices coordinates rows = outcome a (loaded flags vertices coordinates rows)
 
--- "Success writes n darts' rows, flags, vertex marks .. and coordinates .. and no more"
+-- scope: reader. What an image of n darts and v records leaves in the loans, whose places beyond n stay as they were.
 unfoldable pub wrote : List ℕ → ℕ → ℕ → List ℕ → List ℕ → List Float → List ℕ → Read
 wrote bytes n v flags vertices coordinates rows =
     readOut (Done 0 n) (flagsOf bytes n ++ drop n flags) (slotsOf bytes n v .marks ++ drop n vertices)
@@ -44,13 +44,13 @@ abbrev pub testOf : ℕ → List ℕ → List ℕ → List ℕ → List Float �
 testOf most bytes flags vertices coordinates rows =
     imageTest most bytes (readerLoans (length flags) (length vertices) (length coordinates)) (length rows)
 
--- "a refusal writes nothing"
+-- scope: reader. A refusal of any test leaves every loan.
 unfoldable pub readWithin : ℕ → List ℕ → List ℕ → List ℕ → List Float → List ℕ → Read
 readWithin most bytes flags vertices coordinates rows =
     behind (testOf most bytes flags vertices coordinates rows) (loaded flags vertices coordinates rows)
     (wrote bytes (dartsOf bytes) (verticesOf bytes) flags vertices coordinates rows)
 
--- "1 <= n <= 1,048,576"
+-- the call reads images of as many darts as a map may have (scope: rows)
 abbrev pub readImage : List ℕ → List ℕ → List ℕ → List Float → List ℕ → Read
 readImage = readWithin 1048576
 

@@ -19,7 +19,7 @@ use Rattle.image_form.specs.Tests.{headerTest, flagsTest, verticesTest}
 unfoldable pub loansTest : ℕ → Loans → ℕ → Answer
 loansTest n loans rows = andThen (loanTest n loans) (cond (ltb rows (4 * n)) (Refused (ShortLoan 7)) pass)
 
--- "Then ShortLoan, BadImage 7 for flags, 8 for vertices, NotAMap."
+-- what the blocks are asked, in this order: flags, records, rows (scope: reader)
 unfoldable pub blocksTest : List ℕ → ℕ → ℕ → Answer
 blocksTest bytes n v = andThen (flagsTest bytes n) (andThen (verticesTest bytes n v) (mapTest (rowsOf bytes n)))
 

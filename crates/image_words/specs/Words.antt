@@ -10,7 +10,7 @@ use lib.ListN.{getD}
 use lib.Ieee.{Float, binary64, ofBits}
 use Rattle.image_words.specs.Lists.{listed}
 
--- "Little-endian."
+-- four bytes as a number, the lowest first
 unfoldable pub word32 : List ℕ → ℕ → ℕ
 word32 bytes at =
     getD bytes at 0 + 256 * getD bytes (at + 1) 0 + 65536 * getD bytes (at + 2) 0 + 16777216 * getD bytes (at + 3) 0

@@ -1,4 +1,4 @@
--- The proved examples of document 01: each call of the table leaves what the document says (`agree`), computed from the definitions.
+-- The worked examples of links: each call of the table leaves what the table says (`agree`), computed from the definitions.
 -- Assumes nothing.
 use mathlib.Core.Path.{_≡_, refl}
 use Rattle.map_betas.specs.Maps.{badSize, breaks, breachAt, firstBreach, mapTest}

@@ -1,6 +1,6 @@
--- The proved examples ("P") of document 01, as one table; `proofs/Agree.antt` has the one claim over it.
---   Line A           a row of the table: what the call leaves, an A, and what the document says; here A is `Outcome (List ℕ)`, an answer and rows
---   one, loops, ..   maps: "Beta 1 chains; 'loop' means closed; all else null."
+-- The worked examples of links (scope: examples), as one table; `proofs/Agree.antt` has the one claim over it.
+--   Line A           a row of the table: what the call leaves, an A, and what the table says; here A is `Outcome (List ℕ)`, an answer and rows
+--   one, loops, ..   maps: chains by beta 1, closed where they are called loops; every other image is null
 --   lines            the table: the lines of links, then the smallest inputs that tell the readings of the walk apart
 --   calls, sayings   its two columns
 -- A crate above this one joins its own lines with these by `++`, at an A that has its further loans too.

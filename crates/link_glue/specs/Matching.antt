@@ -14,7 +14,7 @@ use lib.ListN.{length}
 use Rattle.map_betas.specs.Betas.{beta, darts}
 pub use Rattle.map_betas.specs.Chains.{Chain, first, on, back}
 
--- "It is closed if it has no null beta 1; the step back to ld closes it."
+-- a chain without an end, which the step back to ld closes (scope: matching)
 pub record ClosedChain (rows : List ℕ) (ld : ℕ) : Type 0 where
   pub never-null : (d : ℕ) → Chain rows ld d → beta rows 1 d ≢ 0
 
@@ -25,7 +25,7 @@ pub record Facing (rows : List ℕ) (ld : ℕ) (p : ℕ → ℕ) : Type 0 where
   -- where nothing follows d, nothing stands before its partner: null for null
   pub ends : (d : ℕ) → Chain rows ld d → beta rows 1 d ≡ 0 → beta rows 0 (p d) ≡ 0
 
--- "A 3-link of real ld, rd on a well-formed map succeeds iff there is p on the chain with:"
+-- scope: matching. A 3-link of real darts of a map succeeds exactly where there is such a p (demand 3).
 pub record Matching (rows : List ℕ) (ld rd : ℕ) (p : ℕ → ℕ) : Type 0 where
   -- rd is the partner of ld
   pub starts : p ld ≡ rd

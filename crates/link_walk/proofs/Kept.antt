@@ -3,7 +3,7 @@
 --   link-kept, unlink-kept   a 3-link and a 3-unlink of real darts keep a map a map of as many darts, done or refused
 --   call-kept              and so do the calls, whatever their darts (`bare-link-kept`, `bare-unlink-kept`, `three-link-kept`, `three-unlink-kept`)
 --   Unmoved rows o         where o is a refusal its rows are as they were
---   bare-link-unmoved, bare-unlink-unmoved, three-link-unmoved, three-unlink-unmoved   "After any refusal rows .. are unchanged": all six calls
+--   bare-link-unmoved, bare-unlink-unmoved, three-link-unmoved, three-unlink-unmoved   a refusal leaves the rows: all six calls
 -- Assumes nothing.
 use Prim.Native.Nat.{ℕ, suc, _<_, _≤_}
 use native.Mathlib.Omega.{arith}

@@ -1,6 +1,6 @@
--- The six calls, for any rows and any darts: "Order: 1, 2, 3, 4, 5, then 6 to 10 as the walk meets them". A refusal leaves the rows as they were.
+-- The six calls, for any rows and any darts: their tests first, then what the walk meets (scope: order). A refusal leaves the rows as they were.
 --   bareLink rows i ld rd, bareUnlink rows i ld   the core behind its tests, once over the beta
---   oneLink, oneUnlink, twoLink, twoUnlink        "1- and 2-links and unlinks are the bare cores."
+--   oneLink, oneUnlink, twoLink, twoUnlink        the core of beta 1 and of beta 2 (scope: 1-link, 2-link)
 --   threeLink, threeUnlink                        both faces, pair by pair
 --   Real rows a b                                 what their tests ask: rows are a map, a and b real darts of it (`proofs/CallLaws.antt`)
 use Prim.Native.Nat.{ℕ, _<_}
@@ -36,6 +36,6 @@ threeLink rows ld rd = behind (guardOf rows noLoans 1 ld rd) rows (given (threeL
 unfoldable pub threeUnlink : List ℕ → ℕ → Outcome (List ℕ)
 threeUnlink rows ld = behind (guardOf rows noLoans 1 ld ld) rows (given (threeUnlinkOn rows ld))
 
--- BadDart: "dart >= n; also 0 for links, unlinks, sews, unsews"
+-- rows are a map, and both darts real darts of it: neither null nor beyond the last
 abbrev pub Real : List ℕ → ℕ → ℕ → Type 0
 Real rows a b = WellFormed rows × (0 < a) × (a < darts rows) × (0 < b) × (b < darts rows)

@@ -16,19 +16,19 @@ use Rattle.map_betas.specs.Answers.{Out, out, isDone}
 use Rattle.map_betas.specs.Cores.{linkCore, unlinkCore}
 use Rattle.link_walk.specs.Walk.{stepOf, LegOut, walk}
 
--- "Then l forward by beta 1, r by beta 0. Until l is ld or null"
+-- the leg forward: l by beta 1, r by beta 0, until l is null or back at ld (scope: 3-link)
 abbrev pub legOn : Bool → List ℕ → ℕ → ℕ → LegOut
 legOn parting rows ld rd = walk (stepOf parting ld rd) (suc (length rows)) rows 1 0 ld (beta rows 1 ld) (beta rows 0 rd) 0
 
--- "then from ld by beta 0 and rd by beta 1 until l is null"
+-- the leg back: l by beta 0, r by beta 1, until l is null
 abbrev pub legBack : Bool → List ℕ → ℕ → ℕ → LegOut
 legBack parting rows ld rd = walk (stepOf parting ld rd) (suc (length rows)) rows 0 1 0 (beta rows 0 ld) (beta rows 1 rd) 0
 
--- "When l is null in this second leg r isn't looked at"
+-- the leg back is the last: wherever r stands at its end, it is done
 abbrev pub lastLeg : ℕ → List ℕ → LegOut → Out
 lastLeg d entry w = cond (isDone (w .leg .answer)) (out (Done d 0) (w .rows)) (out (w .leg .answer) entry)
 
--- "If l is null: r not null gives 9; then .. this second leg .. nor is r [looked at] when a closed l is back at ld."
+-- once the leg forward is over: a closed face is done, wherever r stands; an open one asks r to be null too, and goes back
 abbrev pub afterLeg : Bool → ℕ → List ℕ → ℕ → ℕ → LegOut → Out
 afterLeg parting d entry ld rd w =
     cond (isDone (w .leg .answer))
@@ -40,10 +40,10 @@ afterLeg parting d entry ld rd w =
 abbrev pub afterCore : Bool → ℕ → List ℕ → ℕ → ℕ → Out → Out
 afterCore parting d entry ld rd o = cond (isDone (o .answer)) (afterLeg parting d entry ld rd (legOn parting (o .rows) ld rd)) (out (o .answer) entry)
 
--- "3-link: core (3, ld, rd). Then .."
+-- scope: 3-link
 unfoldable pub threeLinkOn : List ℕ → ℕ → ℕ → Out
 threeLinkOn entry ld rd = afterCore false 0 entry ld rd (linkCore entry 3 ld rd)
 
--- "3-unlink walks likewise .. It returns rd"
+-- scope: 3-unlink. Its answer is the dart that faced ld.
 unfoldable pub threeUnlinkOn : List ℕ → ℕ → Out
 threeUnlinkOn entry ld = afterCore true (beta entry 3 ld) entry ld (beta entry 3 ld) (unlinkCore entry 3 ld)

@@ -14,7 +14,7 @@ use Rattle.map_betas.specs.Answers.{Out, out, pass, isDone}
 use Rattle.map_betas.specs.Cores.{linkCore, unlinkCore}
 use Rattle.link_walk.specs.declared.walk.Leg.{Leg}
 
--- Of a link: "r null gives 9, else core." Of an unlink: "each l required to be beta 3 of r, else 9."
+-- A pair of the walk: a link asks for an r, and goes by the core; an unlink asks l to be the beta 3 image of r, and parts them.
 -- 9 says ld and rd, the darts of the call.
 unfoldable pub stepOf : Bool → ℕ → ℕ → List ℕ → ℕ → ℕ → Out
 stepOf false ld rd rows l r = cond (eqb r 0) (out (Refused (AsymmetricalFaces ld rd)) rows) (linkCore rows 3 l r)

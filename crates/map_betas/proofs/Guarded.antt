@@ -13,7 +13,7 @@ use mathlib.Core.Bool.{Bool, true, false, cond}
 use lib.Dec.{ltb}
 use borrow.Author.Tests.{ltb-true, ltb-false}
 use Rattle.map_betas.specs.declared.error.Answer.{Answer}
-use Rattle.map_betas.specs.declared.error.Answer.the-variants.{Done, Refused}
+use Rattle.map_betas.specs.declared.error.Answer.the-variants.{Refused}
 use Rattle.map_betas.specs.declared.error.Refusal.the-variants.{NotAMap}
 use Rattle.map_betas.specs.declared.loans.Loans.{Loans}
 use Rattle.map_betas.specs.Betas.{darts}

@@ -2,7 +2,7 @@
 --   pass          done, with nothing to say
 --   isDone a      whether a is no refusal
 --   andThen a b   a where it is a refusal, else b
---   tellOf a      the number and the three values of a, as document 01's table has them
+--   tellOf a      the number and the three values of a, as the table of scope: numbers has them
 --   Out           what a core leaves: an answer and the rows
 --   Outcome L     an answer and what is left of the loans, an L: their contents, in the order of the call's parameters
 --   given o       what a core leaves, as what a call leaves whose one loan is the rows
@@ -31,7 +31,7 @@ andThen (Refused w) b = Refused w
 abbrev pub toldOf : ℕ → ℕ → ℕ → ℕ → Told
 toldOf k a b c = record { number = k; first = a; second = b; third = c }
 
--- "Numbers given back": the one place that goes by cases on a refusal
+-- a refusal's number and values (scope: numbers): the one place that goes by cases on a refusal
 abbrev pub refusalOf : Refusal → Told
 refusalOf (BadSize k) = toldOf 1 k 0 0
 refusalOf (ShortLoan k) = toldOf 2 k 0 0
@@ -67,6 +67,6 @@ outcome a loans = record { answer = a; loans = loans }
 abbrev pub given : Out → Outcome (List ℕ)
 given o = outcome (o .answer) (o .rows)
 
--- "After any refusal rows, vertices, plan and output are unchanged. Scratch: unchanged after 1 to 5"
+-- what a call leaves behind its tests: their refusal leaves every loan, scratch too (scope: what is left)
 abbrev pub behind : {L : Type 0} → Answer → L → Outcome L → Outcome L
 behind g loans o = cond (isDone g) o (outcome g loans)

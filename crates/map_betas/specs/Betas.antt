@@ -12,14 +12,14 @@ use mathlib.Core.List.{List}
 use lib.Dec.{leb}
 use lib.ListN.{length, getD, set}
 
--- "Rows are lent u32 numbers: beta 0, 1, 2, 3 of dart 0, then of dart 1, and so on."
+-- where the image of d by beta i stands (scope: rows)
 abbrev pub place : ℕ → ℕ → ℕ
 place i d = 4 * d + i
 
 abbrev pub beta : List ℕ → ℕ → ℕ → ℕ
 beta rows i d = getD rows (place i d) 0
 
--- "n darts, the null dart 0 counted"
+-- how many darts there are, the null dart among them
 abbrev pub darts : List ℕ → ℕ
 darts rows = length rows / 4
 
@@ -35,6 +35,6 @@ put rows i l r = set (set rows (place i l) r) (place (opp i) r) l
 abbrev pub cut : List ℕ → ℕ → ℕ → ℕ → List ℕ
 cut rows i l r = set (set rows (place i l) 0) (place (opp i) r) 0
 
--- "M(d) is the larger of the two named images."
+-- the larger of two images: the one that there is, where the other is null (scope: far end)
 abbrev pub larger : ℕ → ℕ → ℕ
 larger a b = cond (leb a b) b a

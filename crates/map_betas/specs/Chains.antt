@@ -10,7 +10,7 @@ unfoldable pub far : List ℕ → ℕ → ℕ → ℕ → ℕ
 far rows i zero d = d
 far rows i (suc t) d = far rows i t (beta rows i d)
 
--- "Face chain of ld" is "all darts reached from ld by beta 1 and beta 0."
+-- the face chain of ld: ld, and what beta 1 and beta 0 lead to from a dart of the chain (scope: matching)
 pub data Chain (rows : List ℕ) (ld : ℕ) : ℕ → Type 0 where
   first : Chain rows ld ld
   on : {d : ℕ} → Chain rows ld d → beta rows 1 d ≢ 0 → Chain rows ld (beta rows 1 d)

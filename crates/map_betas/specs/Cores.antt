@@ -10,15 +10,15 @@ use Rattle.map_betas.specs.declared.error.Refusal.the-variants.{NonFreeB
 use Rattle.map_betas.specs.Betas.{beta, opp, put, cut}
 use Rattle.map_betas.specs.Answers.{Out, out, pass}
 
--- "base not i-free gives 6 with (i, l, r); else image not free, or l = r with i 2 or 3, gives 7.
--- For i = 1 the base is beta 1 of l, the image beta 0 of r, and 7 says 0."
+-- scope: link core. The image forward has to be null, then the one that will lead back; a dart is never its own image by beta 2 or 3.
+-- `opp i` is the beta that leads back, 0 for 1, and is what a 7 says.
 unfoldable pub linkCore : List ℕ → ℕ → ℕ → ℕ → Out
 linkCore rows i l r =
     cond (not (eqb (beta rows i l) 0)) (out (Refused (NonFreeBase i l r)) rows)
     (cond (not (eqb (beta rows (opp i) r) 0) || leb 2 i && eqb l r) (out (Refused (NonFreeImage (opp i) l r)) rows)
     (out pass (put rows i l r)))
 
--- "Unlink core: null image gives 8."
+-- scope: unlink core. Both images of the pair become null, and the answer is the dart that was linked.
 unfoldable pub unlinkCore : List ℕ → ℕ → ℕ → Out
 unlinkCore rows i l =
     cond (eqb (beta rows i l) 0) (out (Refused (AlreadyFree i l)) rows)

@@ -1,4 +1,4 @@
--- What refuses a call before its work: "Order: 1, 2, 3, 4".
+-- What refuses a call before its work, in this order: 1, 2, 3, 4 (scope: order).
 --   enough             the length that a loan counts as which a call has not
 --   noLoans, scratchOf  the loans of a call that has none; that has marks and queue
 --   orbitLoans, listLoans, vertexLoans, readerLoans   the loans of an orbit call, a list call, a 2-sew and the reader
@@ -26,12 +26,12 @@ abbrev pub noLoans : Loans
 noLoans =
     record { marks = enough; queue = enough; output = enough; flags = enough; vertices = enough; coordinates = enough }
 
--- "identifiers, cell lists, sews and unsews marks and queue too"
+-- the loans of identifiers, and of those sews and unsews that look at no vertex (scope: loans)
 abbrev pub scratchOf : ℕ → ℕ → Loans
 scratchOf marks queue =
     record { marks = marks; queue = queue; output = enough; flags = enough; vertices = enough; coordinates = enough }
 
--- "orbits marks", and the output
+-- the loans of an orbit, whose output is its queue
 abbrev pub orbitLoans : ℕ → ℕ → Loans
 orbitLoans marks output =
     record { marks = marks; queue = enough; output = output; flags = enough; vertices = enough; coordinates = enough }
@@ -50,7 +50,7 @@ abbrev pub readerLoans : ℕ → ℕ → ℕ → Loans
 readerLoans flags vertices coordinates =
     record { marks = enough; queue = enough; output = enough; flags = flags; vertices = vertices; coordinates = coordinates }
 
--- "Loans are numbered 1 to 7 and tested so: marks, queue, output, flags, vertex marks, coordinates"
+-- the first loan that is too short, in the order of their numbers (scope: loans)
 unfoldable pub loanTest : ℕ → Loans → Answer
 loanTest n loans =
     cond (ltb (loans .marks) n) (Refused (ShortLoan 1))
@@ -60,11 +60,11 @@ loanTest n loans =
     (cond (ltb (loans .vertices) n) (Refused (ShortLoan 5))
     (cond (ltb (loans .coordinates) (3 * n)) (Refused (ShortLoan 6)) pass)))))
 
--- "dart >= n; also 0 for links, unlinks, sews, unsews"
+-- a dart that is none of the map's, or is below the least that the call takes: 0, or 1 where the null dart is refused
 unfoldable pub noDart : ℕ → ℕ → ℕ → Bool
 noDart n least d = ltb d least || leb n d
 
--- "first bad argument, 1 or 2"
+-- refusal 4 says which of the two darts it was
 abbrev pub dartTest : ℕ → ℕ → ℕ → ℕ → Answer
 dartTest n least a b = cond (noDart n least a) (Refused (BadDart 1)) (cond (noDart n least b) (Refused (BadDart 2)) pass)
 

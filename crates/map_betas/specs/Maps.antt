@@ -2,7 +2,7 @@
 --   Sized rows         whole rows of 1 to 1,048,576 darts
 --   sizeTest rows      refuses rows that are not
 --   breaks rows i d    whether the image of d by beta i breaks a rule
---   NullRow rows       "row 0 is all 0"
+--   NullRow rows       the null dart has no image
 --   breachAt rows d    the least beta whose image of d breaks a rule, or 4
 --   firstBreach f rows d   refuses the first of f darts from d on that has a breach
 --   mapTest rows       refuses the first breach of all
@@ -21,21 +21,21 @@ use Rattle.map_betas.specs.declared.error.Refusal.the-variants.{BadSize,
 use Rattle.map_betas.specs.Betas.{beta, darts, opp}
 use Rattle.map_betas.specs.Answers.{pass, andThen}
 
--- "1 <= n <= 1,048,576"
+-- whole rows of at least one dart and at most as many as there may be (scope: rows)
 pub record Sized (rows : List ℕ) : Type 0 where
   pub whole : length rows ≡ 4 * darts rows
   pub some : 1 ≤ darts rows
   pub few : darts rows ≤ 1048576
 
--- "row length is 0, no multiple of 4, or n too large"
+-- refusal 1: no rows, a row that is not whole, or too many
 unfoldable pub badSize : ℕ → Bool
 badSize k = eqb k 0 || (not (eqb (k % 4) 0) || ltb 4194304 k)
 
 abbrev pub sizeTest : List ℕ → Answer
 sizeTest rows = cond (badSize (length rows)) (Refused (BadSize (length rows))) pass
 
--- "every image is below n; row 0 is all 0; a non-null beta 1 image has beta 0 leading back, and the reverse;
--- beta 2 and beta 3 images, where non-null, lead back and are never the dart itself. Beta 1 may fix a dart."
+-- scope: map. Whether the image of d by beta i, taken by itself, breaks a rule: it is no dart, it is an image of the null dart,
+-- it does not lead back, or it is d itself by beta 2 or 3. A null image of a real dart breaks none.
 unfoldable pub breaks : List ℕ → ℕ → ℕ → Bool
 breaks rows i d =
     leb (darts rows) (beta rows i d)
@@ -45,7 +45,7 @@ breaks rows i d =
 abbrev pub NullRow : List ℕ → Type 0
 NullRow rows = (i : ℕ) → i < 4 → beta rows i 0 ≡ 0
 
--- "least dart, then least beta, whose image breaks a rule"
+-- the least beta whose image of d breaks a rule, and 4 where none does
 unfoldable pub breachAt : List ℕ → ℕ → ℕ
 breachAt rows d = cond (breaks rows 0 d) 0 (cond (breaks rows 1 d) 1 (cond (breaks rows 2 d) 2 (cond (breaks rows 3 d) 3 4)))
 

@@ -1,4 +1,4 @@
--- Beta reads and free tests: "no map test: 1, 4, 5 only; dart 0 is allowed there".
+-- Reads of an image and tests for null ones, which make no map test (scope: reads).
 --   readTest rows i d   the tests of a read
 --   betaRead, iFree, isFree   the calls
 use Prim.Native.Nat.{ℕ}
@@ -13,7 +13,7 @@ use Rattle.map_betas.specs.Answers.{pass, andThen}
 use Rattle.map_betas.specs.Maps.{sizeTest}
 use Rattle.map_betas.specs.Guards.{dartTest}
 
--- "beta number above 3"
+-- refusal 5 says the number that is no beta
 abbrev pub betaTest : ℕ → Answer
 betaTest i = cond (ltb 3 i) (Refused (BadBeta i)) pass
 

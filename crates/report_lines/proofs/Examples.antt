@@ -1,7 +1,7 @@
--- Reports, computed: document 01's triangle, an input that is too long, and one that is too short. Assumes nothing.
---   triangle-report   the five lines of document 01
---   long-report       "refused 12 2 0 0", whatever the bytes are
---   short-report      "refused 12 1 0 0" of no bytes at all
+-- Reports, computed: the closed triangle, an input that is too long, and one that is too short. Assumes nothing.
+--   triangle-report   the triangle's five lines
+--   long-report       12 (2), whatever the bytes are
+--   short-report      12 (1) of no bytes at all
 use Prim.Native.Nat.{ℕ}
 use mathlib.Core.Path.{_≡_, refl}
 use mathlib.Core.Bool.{true, false}
@@ -19,7 +19,7 @@ use Rattle.image_reader.specs.Tests.{blocksTest}
 use Rattle.report_text.specs.Texts.{digits, itemsOf, lineOf}
 use Rattle.report_lines.specs.Report.{valueOf, toldLine, usedUpTo, headLine, classLine, mapText, answerOf, imageText, reportOf}
 
--- "Image of a closed triangle 1, 2, 3, n = 4, v = 0, header 1 96 4 28 92 0 96"
+-- the image of the closed triangle 1, 2, 3 without vertices: n is 4, and 96 bytes in all
 triangle : List ℕ
 triangle =
     1 ∷ 0 ∷ 0 ∷ 0 ∷ 96 ∷ 0 ∷ 0 ∷ 0 ∷ 4 ∷ 0 ∷ 0 ∷ 0 ∷ 28 ∷ 0 ∷ 0 ∷ 0 ∷ 92 ∷ 0 ∷ 0 ∷ 0 ∷ 0 ∷ 0 ∷ 0 ∷ 0 ∷ 96 ∷ 0 ∷ 0 ∷ 0 ∷

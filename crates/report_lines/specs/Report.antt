@@ -38,7 +38,7 @@ use Rattle.report_text.specs.Texts.{decimal, lineOf}
 unfoldable pub valueOf : ℕ → List ℕ
 valueOf x = (32 ∷ []) ++ decimal x
 
--- "refused", "darts", " used", "vertices", "edges", "faces", "volumes"
+-- the words of the report: refused, darts, used (with a space before it), vertices, edges, faces, volumes
 abbrev pub refusedWord : List ℕ
 refusedWord = 114 ∷ 101 ∷ 102 ∷ 117 ∷ 115 ∷ 101 ∷ 100 ∷ []
 
@@ -60,7 +60,7 @@ facesWord = 102 ∷ 97 ∷ 99 ∷ 101 ∷ 115 ∷ []
 abbrev pub volumesWord : List ℕ
 volumesWord = 118 ∷ 111 ∷ 108 ∷ 117 ∷ 109 ∷ 101 ∷ 115 ∷ []
 
--- "A refusal prints as `refused 12 2 0 0`: number, three values (0 where absent)."
+-- scope: report. A refusal's line: its word, its number, its three values.
 unfoldable pub toldLine : Told → List ℕ
 toldLine t =
     ((((refusedWord ++ valueOf (t .number)) ++ valueOf (t .first)) ++ valueOf (t .second)) ++ valueOf (t .third)) ++ (10 ∷ [])
@@ -73,11 +73,11 @@ unfoldable pub usedUpTo : List ℕ → ℕ → ℕ
 usedUpTo flags zero = 0
 usedUpTo flags (suc k) = usedUpTo flags k + cond (eqb (getD flags (k + 1) 0) 0) 1 0
 
--- "n; real darts not flagged"
+-- the first line: n, and how many real darts are in use
 unfoldable pub headLine : ℕ → ℕ → List ℕ
 headLine n used = (((dartsWord ++ valueOf n) ++ usedWord) ++ valueOf used) ++ (10 ∷ [])
 
--- "per class the count, a colon, each identifier after one space"
+-- the line of a class of cells: its list, behind the list's length
 unfoldable pub classLine : List ℕ → Class → List ℕ → List ℕ → List ℕ
 classLine name class rows flags = lineOf name (listOf class rows flags) (length (listOf class rows flags))
 
@@ -88,7 +88,7 @@ mapText rows flags =
     ++ classLine facesWord Face rows flags)
     ++ classLine volumesWord Volume rows flags
 
--- "n <= 1,024"
+-- the most darts that the program has room for
 abbrev pub most : ℕ
 most = 1024
 
@@ -100,7 +100,7 @@ imageText bytes =
     let n = dartsOf bytes in
     cond (isDone (answerOf bytes)) (mapText (rowsOf bytes n) (flagsOf bytes n)) (refusedLine (answerOf bytes))
 
--- "longer input is BadImage 2 before all else"
+-- scope: report. Input that is longer than the program's buffer is refused before it is looked at.
 unfoldable pub reportOf : Bool → List ℕ → List ℕ
 reportOf more bytes = cond more (refusedLine (Refused (BadImage 2))) (imageText bytes)
 

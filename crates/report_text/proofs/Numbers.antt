@@ -1,7 +1,7 @@
 -- What the digits of a number are worth, and how many there are. Assumes nothing.
 --   decimal-value    a number's decimal digits are worth the number
 --   decimal-length   a number below 10 ^ (k + 1) has at most k + 1 digits
---   vertices-line    a line of document 01's report, computed
+--   vertices-line    a line of the triangle's report, computed
 --   numbers          numbers, computed
 use Prim.Native.Nat.{ℕ, zero, suc, _+_, _-_, _*_, _/_, _%_, _<_, _≤_}
 use native.Mathlib.Omega.{arith}
@@ -65,7 +65,7 @@ decimal-length k f x e h =
     let l = digits-length f x in
     rw p l
 
--- "vertices 3: 1 2 3"
+-- the line that names vertices 1, 2 and 3
 vertices-line : lineOf (118 ∷ 101 ∷ 114 ∷ 116 ∷ 105 ∷ 99 ∷ 101 ∷ 115 ∷ []) (1 ∷ 2 ∷ 3 ∷ 9 ∷ []) 3 ≡
     118 ∷ 101 ∷ 114 ∷ 116 ∷ 105 ∷ 99 ∷ 101 ∷ 115 ∷ 32 ∷ 51 ∷ 58 ∷ 32 ∷ 49 ∷ 32 ∷ 50 ∷ 32 ∷ 51 ∷ 10 ∷ []
 unfolding lineOf itemsOf digits

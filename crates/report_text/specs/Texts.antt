@@ -36,6 +36,6 @@ unfoldable pub itemsOf : List ℕ → ℕ → List ℕ
 itemsOf list zero = []
 itemsOf list (suc k) = (itemsOf list k ++ (32 ∷ [])) ++ decimal (getD list k 0)
 
--- "the count, a colon, each identifier after one space"
+-- a line of k identifiers: name, k, a colon, and a space before each (scope: report)
 unfoldable pub lineOf : List ℕ → List ℕ → ℕ → List ℕ
 lineOf name list k = ((((name ++ (32 ∷ [])) ++ decimal k) ++ (58 ∷ [])) ++ itemsOf list k) ++ (10 ∷ [])

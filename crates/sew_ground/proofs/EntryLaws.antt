@@ -1,18 +1,18 @@
 -- Entries that are there or not (`none-asked`, `none-differs`, `one-differs`), and entries written behind each other: in two parts (`written-both`),
 -- and from a plan's start (`written-put`). Assumes nothing.
-use Prim.Native.Nat.{ℕ, _+_, _*_, _<_, _≤_}
+use Prim.Native.Nat.{ℕ, _+_}
 use native.Mathlib.Omega.{arith}
 use mathlib.Core.Path.{_≡_, refl, sym, ap, _∙_}
 use mathlib.Core.Logic.{_≢_}
 use mathlib.Core.Bool.{Bool, true, false}
 use mathlib.Core.List.{List, [], _∷_, _++_, append-assoc}
 use lib.ListN.{length, length-append}
-use borrow.Author.Tests.{eq-eqb, ne-eqb, le-leb, lt-leb}
+use borrow.Author.Tests.{eq-eqb, ne-eqb}
 use Rattle.cell_steps.specs.declared.cells.Class.{Class}
 use Rattle.sew_plan.specs.declared.Kind.{Kind}
 use Rattle.sew_plan.specs.declared.Entry.{Entry}
-use Rattle.sew_plan.specs.Plan.{width, written, putPlan}
-use Rattle.sew_plan.proofs.PlanLaws.{write-next, put-none, length-written}
+use Rattle.sew_plan.specs.Plan.{written, putPlan}
+use Rattle.sew_plan.proofs.PlanLaws.{write-next, put-none}
 use Rattle.sew_ground.specs.declared.items.Item.{Item}
 use Rattle.sew_ground.specs.declared.items.Item.the-variants.{Nothing, One}
 use Rattle.sew_ground.specs.declared.items.Items.{Items}

@@ -19,7 +19,7 @@ use Rattle.sew_ground.specs.Two.{twoSewOn, twoUnsewOn}
 abbrev pub SewLoans : Type 0
 SewLoans = List ℕ × List ℕ × List ℕ × List ℕ
 
--- "Scratch: .. otherwise, after success too, its first n places are 0 and the rest unchanged."
+-- what a sew or unsew leaves once its tests have passed: scratch is wiped, whatever the answer (scope: scratch)
 abbrev pub sewDone : ℕ → List ℕ → List ℕ → Sewn → Outcome SewLoans
 sewDone n marks queue s = outcome (s .answer) (s .rows, wiped n marks, wiped n queue, s .plan)
 

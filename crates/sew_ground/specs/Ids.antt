@@ -5,7 +5,7 @@ use mathlib.Core.List.{List}
 use Rattle.cell_steps.specs.Steps.{vertex, edge}
 use Rattle.cell_steps.specs.Idents.{ident}
 
--- "Vertex, edge and volume identifiers are the least dart of the orbit; of 0, 0."
+-- the names that sews and unsews ask for (scope: identifier)
 abbrev pub vertexId : List ℕ → ℕ → ℕ
 vertexId rows d = ident rows vertex d
 

@@ -25,15 +25,15 @@ use Rattle.sew_ground.specs.Sewn.{Work, work, dartOf}
 unfoldable pub bothThree : List ℕ → ℕ → ℕ → Bool
 bothThree rows ld rd = not (eqb (beta rows 3 ld) 0) && not (eqb (beta rows 3 rd) 0)
 
--- "m = M(beta 3, beta 2 of ld)"
+-- the far end of a dart in a 1-sew: by beta 3, or by beta 2 where that is the larger (scope: far end)
 abbrev pub oneFar : List ℕ → ℕ → ℕ
 oneFar rows d = larger (beta rows 3 d) (beta rows 2 d)
 
--- "vl = vertex of m, vr = vertex of rd"; "If m is not 0 and vl, vr differ: vertex merge (least, vl, vr)."
+-- scope: 1-sew. The vertices of ld's far end and of rd, if there is a far end and they are not one already.
 unfoldable pub oneEntries : Kind → List ℕ → ℕ → ℕ → List Entry
 oneEntries kind rows ld rd = entriesIf (not (eqb (oneFar rows ld) 0)) Vertex kind (vertexId rows (oneFar rows ld)) (vertexId rows rd)
 
--- "Link (1, ld, rd); if ld and rd both have beta 3, also link (1, beta 3 of rd, beta 3 of ld)."
+-- two links are done or neither is: a refusal of the second gives back the rows of the start
 abbrev pub orBack : List ℕ → Out → Out
 orBack rows o = cond (isDone (o .answer)) o (out (o .answer) rows)
 
@@ -54,11 +54,11 @@ secondCut rows ld rd = cond (bothThree rows ld rd) (unlinkCore rows 1 (beta rows
 unfoldable pub secondPut : List ℕ → ℕ → ℕ → List ℕ
 secondPut rows ld rd = cond (bothThree rows ld rd) (linkCore rows 1 (beta rows 3 rd) (beta rows 3 ld) .rows) rows
 
--- "if both have beta 3, beta 1 of beta 3 of rd must be beta 3 of ld"
+-- scope: 1-unsew. Whether what faces rd leads on to what faces ld, where both are faced.
 unfoldable pub agrees : List ℕ → ℕ → ℕ → Bool
 agrees rows ld rd = not (bothThree rows ld rd) || eqb (beta rows 1 (beta rows 3 rd)) (beta rows 3 ld)
 
--- "unlink; if both have beta 3, beta 1 of beta 3 of rd must be beta 3 of ld, else 9; unlink that too."
+-- the second unlink of a 1-unsew, on the other side of the face, where there is one
 -- That second unlink is of a dart that has beta 1, so that it never refuses.
 abbrev pub afterUnlink : List ℕ → ℕ → ℕ → Out → Out
 afterUnlink rows ld rd o =
@@ -69,7 +69,7 @@ afterUnlink rows ld rd o =
 unfoldable pub oneUnlinks : List ℕ → ℕ → Out
 oneUnlinks rows ld = afterUnlink rows ld (beta rows 1 ld) (unlinkCore rows 1 ld)
 
--- "Then as above with new identifiers: vertex split (vl, vr, least)."
+-- scope: 1-unsew. The entry of a 1-sew as a split, with the names as they are without the links.
 unfoldable pub oneUnsewOn : List ℕ → ℕ → Work
 oneUnsewOn rows ld =
     work (oneUnlinks rows ld .answer) (oneUnlinks rows ld .rows)

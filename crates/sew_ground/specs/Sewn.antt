@@ -44,12 +44,12 @@ pub record Settled : Type 0 where
 abbrev pub settles : Answer → List ℕ → Settled
 settles a plan = record { answer = a; plan = plan }
 
--- "the finished plan has more entries than fit, and only then"
+-- scope: room. The entries where they fit, else how many there are.
 unfoldable pub settled : List ℕ → ℕ → List Entry → Settled
 settled plan d es =
     cond (leb (length es) (roomOf plan)) (settles (Done d (length es)) (putPlan es plan)) (settles (Refused (PlanRoom (length es))) plan)
 
--- "After any refusal rows, vertices, plan and output are unchanged."
+-- where the plan had no room, the rows of the start
 abbrev pub afterPlan : List ℕ → List ℕ → Settled → Sewn
 afterPlan rows rows′ s = leaves (s .answer) (cond (isDone (s .answer)) rows′ rows) (s .plan)
 

@@ -22,7 +22,7 @@ use Rattle.sew_ground.specs.declared.sides.Side.{Side}
 use Rattle.sew_ground.specs.Entries.{entriesIf}
 use Rattle.sew_ground.specs.Sewn.{Work, work, dartOf}
 
--- "m1 = M(beta 1, beta 3) of ld, m2 of rd"
+-- the far end of a dart in a 2-sew: by beta 1, or by beta 3 where that is the larger (scope: far end)
 abbrev pub farOf : List ℕ → ℕ → ℕ
 farOf rows d = larger (beta rows 1 d) (beta rows 3 d)
 
@@ -30,13 +30,13 @@ unfoldable pub sideOf : List ℕ → ℕ → Side
 sideOf rows d =
     record { far = farOf rows d; edge = edgeId rows d; near = vertexId rows d; end = vertexId rows (farOf rows d) }
 
--- "edge merge of ld's and rd's edges if different; vertex merge (ld's, m2's) if m2 is not 0 and they differ; vertex merge (m1's, rd's) likewise."
+-- scope: 2-sew. The edges, then the vertices where ld begins and rd ends, then those where ld ends and rd begins.
 unfoldable pub twoEntries : Kind → Side → Side → List Entry
 twoEntries kind l r =
     entriesIf true Edge kind (l .edge) (r .edge)
     ++ (entriesIf (not (eqb (r .far) 0)) Vertex kind (l .near) (r .end) ++ entriesIf (not (eqb (l .far) 0)) Vertex kind (l .end) (r .near))
 
--- "If the slots at the vertex identifiers of ld, m2, m1, rd are all defined: (m1 minus ld) dot (m2 minus rd) >= 0 gives 10, before any 6 or 7."
+-- scope: 2-sew. The points at both ends of both edges; an edge that points along the other is refused.
 abbrev pub badSides : List ℕ → List Float → Side → Side → Bool
 badSides vertices coordinates l r = badGeometry vertices coordinates (l .near) (r .end) (l .end) (r .near)
 
@@ -48,7 +48,7 @@ twoSewOn vertices coordinates rows ld rd =
     cond (badSides vertices coordinates (sideOf rows ld) (sideOf rows rd)) (work (Refused (BadGeometry 2 ld rd)) rows [])
     (linkedSides rows ld rd (sideOf rows ld) (sideOf rows rd))
 
--- "unlink first; the same three as splits, on new identifiers"
+-- scope: 2-unsew. Unlinked first, so that the names are those of the cells which it leaves.
 unfoldable pub twoUnsewOn : List ℕ → ℕ → Work
 twoUnsewOn rows ld =
     work (unlinkCore rows 2 ld .answer) (unlinkCore rows 2 ld .rows)

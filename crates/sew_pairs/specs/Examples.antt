@@ -1,6 +1,6 @@
--- The proved examples ("P") of document 01 for the 3-unsew, and the readings that tell its walk apart, as one table; `proofs/Agree.antt` has the
+-- The worked examples of the 3-unsew (scope: examples), and the readings that tell its walk apart, as one table; `proofs/Agree.antt` has the
 -- one claim over it. `Line`, `line` and the maps are of the crate `link_glue`.
---   two-linked, part-linked   maps: "1 and 2 3-linked"; 3 before 1, and 2 and 3 3-linked
+--   two-linked, part-linked   maps: 1 and 2 linked by beta 3; 3 before 1, and 2 and 3 linked by beta 3
 --   zeros3, zeros4, zeros6, sevens   loans: three, four, six zeros; twelve numbers that are not 0
 --   lines                     the table
 use Prim.Native.Nat.{ℕ}
@@ -13,11 +13,11 @@ use Rattle.map_betas.specs.Answers.{Outcome, outcome}
 use Rattle.sew_ground.specs.Calls.{SewLoans}
 use Rattle.sew_pairs.specs.Calls.{threeUnsew}
 
--- "1 and 2 3-linked"
+-- n=3 b3(1)=2
 abbrev pub two-linked : List ℕ
 two-linked = free ++ row 0 0 0 2 ++ row 0 0 0 1
 
--- "n=4 b1(3)=1 b3(2)=3"
+-- n=4 b1(3)=1 b3(2)=3
 abbrev pub part-linked : List ℕ
 part-linked = free ++ row 3 0 0 0 ++ row 0 0 0 3 ++ row 0 1 0 2
 
@@ -39,12 +39,12 @@ leaving a rows marks queue plan = outcome a (rows, marks, queue, plan)
 
 unfoldable pub lines : List (Line (Outcome SewLoans))
 lines =
-    -- "13:1,2,1; 12:1,2,1; 11:0,2,0; 11:1,0,0"
+    -- 13:1,2,1; 12:1,2,1; 11:0,2,0; 11:1,0,0
     line (threeUnsew two-linked zeros3 zeros3 (sevens ++ row 7 7 7 7) 1)
     (leaving (Done 2 4) (free ++ free ++ free) zeros3 zeros3 (row 13 1 2 1 ++ row 12 1 2 1 ++ row 11 0 2 0 ++ row 11 1 0 0))
-    -- "11 (4), still linked"
+    -- room for three of four entries: 11, and the darts stay linked
     ∷ line (threeUnsew two-linked zeros3 zeros3 sevens 1) (leaving (Refused (PlanRoom 4)) two-linked zeros3 zeros3 sevens)
-    -- the least over the walked darts of each side: "13:2,3,2"
+    -- the least over the walked darts of each side: 13:2,3,2
     ∷ line (threeUnsew part-linked zeros4 zeros4 (sevens ++ row 7 7 7 7) 2)
     (leaving (Done 3 4) (free ++ row 3 0 0 0 ++ free ++ row 0 1 0 0) zeros4 zeros4 (row 13 2 3 2 ++ row 12 2 3 2 ++ row 11 0 3 0 ++ row 11 2 1 1))
     -- an open face, from its last dart: the second leg's pair comes last, and marks and queue are longer than n

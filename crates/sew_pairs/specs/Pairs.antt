@@ -21,12 +21,12 @@ use Rattle.sew_plan.specs.declared.Entry.{Entry}
 use Rattle.sew_ground.specs.Ids.{vertexId, edgeId}
 use Rattle.sew_ground.specs.Entries.{entriesIf}
 
--- "M(beta 1, beta 2 of l)"
+-- the far end of a dart in a 3-unsew: by beta 1, or by beta 2 where that is the larger (scope: far end)
 unfoldable pub threeFar : List ℕ → ℕ → ℕ
 threeFar rows d = larger (beta rows 1 d) (beta rows 2 d)
 
--- "edge split if edges differ; vertex of M(beta 1, beta 2 of l) against vertex of r, split if different; if beta 0 of l is null, vertex of l
--- against vertex of M(beta 1, beta 2 of r) likewise. A null M gives identifier 0, and that split is listed."
+-- What one pair adds to the plan (scope: 3-unsew): its edges, the end of l against the start of r, and, where l begins an open chain, the other ends.
+-- A far end may be null: its name is 0 then, and the split stands in the plan.
 unfoldable pub pairEntries : List ℕ → ℕ → ℕ → List Entry
 pairEntries rows l r =
     entriesIf true Edge Split (edgeId rows l) (edgeId rows r)
@@ -44,12 +44,12 @@ unfoldable pub rights : Pairs → List ℕ
 rights [] = []
 rights (p ∷ ps) = p .1 ∷ rights ps
 
--- "Then for each pair: .."
+-- the splits of all pairs, in their order
 unfoldable pub entriesOf : List ℕ → Pairs → List Entry
 entriesOf rows [] = []
 entriesOf rows (p ∷ ps) = pairEntries rows (p .0) (p .1) ++ entriesOf rows ps
 
--- "Until l is ld or null"
+-- a leg ends at null, or where it began
 unfoldable pub legOver : ℕ → ℕ → Bool
 legOver l stop = eqb l 0 || eqb l stop
 

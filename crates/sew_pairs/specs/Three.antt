@@ -19,25 +19,25 @@ use Rattle.sew_plan.specs.Plan.{splitOf}
 use Rattle.sew_ground.specs.Sewn.{Work, work, dartOf}
 use Rattle.sew_pairs.specs.Pairs.{Pairs, lefts, rights, entriesOf, legPairs, legEnd}
 
--- "Then l forward by beta 1, r by beta 0. Until l is ld or null"
+-- the pairs of the leg forward from ld, back from rd (scope: 3-link)
 unfoldable pub firstPairs : List ℕ → ℕ → ℕ → Pairs
 firstPairs rows ld rd = legPairs rows 1 0 ld (beta rows 1 ld) (beta rows 0 rd)
 
 unfoldable pub firstEnd : List ℕ → ℕ → ℕ
 firstEnd rows ld = legEnd rows 1 ld (beta rows 1 ld)
 
--- "If l is null: .. then from ld by beta 0 and rd by beta 1 until l is null"
+-- the pairs of the leg back from ld, which is walked where the first one came to null
 unfoldable pub backPairs : List ℕ → ℕ → ℕ → Pairs
 backPairs rows ld rd = cond (eqb (firstEnd rows ld) 0) (legPairs rows 0 1 0 (beta rows 0 ld) (beta rows 1 rd)) []
 
--- "3-unlink collecting pairs in walk order": ld and rd are the first
+-- all pairs of a 3-unsew in the order of its walk: ld and rd, then the legs'
 unfoldable pub pairsOf : List ℕ → ℕ → ℕ → Pairs
 pairsOf rows ld rd = (ld, rd) ∷ (firstPairs rows ld rd ++ backPairs rows ld rd)
 
 unfoldable pub splitsOf : List ℕ → ℕ → ℕ → Pairs → List Entry
 splitsOf rows left right ps = splitOf Face left right ∷ entriesOf rows ps
 
--- "Face split (least left, least right, lesser of both), always. Then for each pair: .."
+-- scope: 3-unsew. The face split of the least darts of both sides, then each pair's splits.
 unfoldable pub threeEntries : List ℕ → ℕ → ℕ → List Entry
 threeEntries rows ld rd = splitsOf rows (least (lefts (pairsOf rows ld rd))) (least (rights (pairsOf rows ld rd))) (pairsOf rows ld rd)
 

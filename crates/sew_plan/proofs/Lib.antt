@@ -1,5 +1,5 @@
 -- The laws of plans.
 --   PlanLaws   an entry written, and what that leaves of a plan
---   Examples   the plans of document 01's examples
+--   Examples   the plans of worked examples
 pub mod PlanLaws
 pub mod Examples

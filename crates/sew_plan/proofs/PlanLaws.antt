@@ -8,14 +8,14 @@
 --   put-front       the written part of a plan
 --   put-rest        the rest of a plan is unchanged
 --   length-written  writing an entry for which there is room keeps the length
-use Prim.Native.Nat.{ℕ, suc, _+_, _*_, _/_, _<_, _≤_}
+use Prim.Native.Nat.{ℕ, suc, _+_, _*_, _≤_}
 use mathlib.Core.Path.{_≡_, refl, sym, ap, _∙_}
 use mathlib.Core.List.{List, [], _∷_, _++_, append-assoc}
 use native.Mathlib.Omega.{arith}
 use lib.ListN.{length, take, drop, set, length-append, length-take, length-drop}
 use lib.Seq.{sets-eq, take-at, drop-at, drop-drop}
 use Rattle.sew_plan.specs.declared.Entry.{Entry}
-use Rattle.sew_plan.specs.Plan.{width, codeOf, entryWords, written, roomOf, planOf, putPlan}
+use Rattle.sew_plan.specs.Plan.{width, codeOf, entryWords, written, planOf, putPlan}
 
 -- ---- one entry
 

@@ -21,11 +21,11 @@ use Rattle.sew_plan.specs.declared.Kind.{Kind}
 use Rattle.sew_plan.specs.declared.Kind.the-variants.{Merge, Split}
 use Rattle.sew_plan.specs.declared.Entry.{Entry}
 
--- "lent u32 numbers in whole entries of four"
+-- the numbers of one entry (scope: plan)
 abbrev pub width : ℕ
 width = 4
 
--- "Each plan entry carries its class and its kind as one code: 1 vertex merge, 2 edge merge, 11 vertex split, 12 edge split, 13 face split."
+-- class and kind as one number: units say the class, and a split has ten more.
 -- No sew merges faces or has an entry for volumes; 3, 4 and 14 are the numbers that the others leave for these.
 abbrev pub codeOf : Class → Kind → ℕ
 codeOf Vertex Merge = 1
@@ -37,35 +37,35 @@ codeOf Face Split = 13
 codeOf Volume Merge = 4
 codeOf Volume Split = 14
 
--- "Each plan entry carries its class and its kind as one code .. A merge continues with out, left in, right in; a split with left out, right out, in."
+-- an entry as it stands in the plan: its code, then its three identifiers
 abbrev pub entryWords : Entry → List ℕ
 entryWords e = codeOf (e .class) (e .kind) ∷ e .a ∷ e .b ∷ e .c ∷ []
 
--- "Out is the lesser."
+-- the identifier that stays where two become one, and the one that two come from
 abbrev pub lesserOf : ℕ → ℕ → ℕ
 lesserOf left right = cond (leb left right) left right
 
--- "A merge continues with out, left in, right in"
+-- a merge says first what stays, then what comes in from either side
 unfoldable pub mergeOf : Class → ℕ → ℕ → Entry
 mergeOf cells left right = record { class = cells; kind = Merge; a = lesserOf left right; b = left; c = right }
 
--- "a split with left out, right out, in"
+-- a split says first what goes out on either side, then where it came from
 unfoldable pub splitOf : Class → ℕ → ℕ → Entry
 splitOf cells left right = record { class = cells; kind = Split; a = left; b = right; c = lesserOf left right }
 
--- "in whole entries of four": entry number k takes the places from width * k on, and no other place changes
+-- entry number k takes the places from width * k on, and no other place changes
 unfoldable pub written : List ℕ → ℕ → Entry → List ℕ
 written plan k e = take (width * k) plan ++ (entryWords e ++ drop (width * k + width) plan)
 
--- "in whole entries of four; a remainder is never touched"
+-- how many whole entries fit; the places beyond them are no room
 abbrev pub roomOf : List ℕ → ℕ
 roomOf plan = length plan / width
 
--- "Each plan entry carries its class and its kind as one code": one entry's numbers behind another's
+-- entries one behind the other
 unfoldable pub planOf : List Entry → List ℕ
 planOf [] = []
 planOf (e ∷ es) = entryWords e ++ planOf es
 
--- "Output and plan beyond the count are unchanged."
+-- a plan's entries from the start of a loan, whose other places stay as they were
 unfoldable pub putPlan : List Entry → List ℕ → List ℕ
 putPlan es plan = planOf es ++ drop (width * length es) plan

@@ -1,4 +1,4 @@
--- The geometry test computed on worked examples: both 2-sews of document 01's table, an undefined slot, two NaNs and a dot of -0.0.
+-- The geometry test computed on worked examples: both worked 2-sews, an undefined slot, two NaNs and a dot of -0.0.
 -- In each, darts 1 and 2 are one open chain and 3 and 4 the other, so that a 2-sew of 1 and 3 has ld 1, m2 4, m1 2, rd 3,
 -- and each of these is its own vertex identifier. Assumes nothing.
 use Prim.Native.Nat.{ℕ}
@@ -33,12 +33,12 @@ north = plusZero ∷ one ∷ plusZero ∷ []
 abbrev places : List Float → List Float → List Float → List Float → List Float
 places p q s t = origin ++ (p ++ (q ++ (s ++ t)))
 
--- "open 1 2; 3 4 at (0,0,0) (1,0,0); (1,0,0) (0,0,0)", 2-sew 1,3: sewn, since (1,0,0) dot (-1,0,0) is -1
+-- 1 from (0,0,0) to (1,0,0), 3 from (1,0,0) to (0,0,0), 2-sew 1,3: sewn, since (1,0,0) dot (-1,0,0) is -1
 pub sewn : badGeometry marks (places origin east east origin) 1 4 2 3 ≡ false
 unfolding badGeometry slotAt slotsRefuse le add sub mul
 sewn = refl
 
--- "same, but 3 at (0,0,0) and 4 at (0,1,0)", 2-sew 1,3: 10, since (1,0,0) dot (0,1,0) is 0
+-- 1 as before, 3 from (0,0,0) to (0,1,0), 2-sew 1,3: 10, since (1,0,0) dot (0,1,0) is 0
 pub refused : badGeometry marks (places origin east origin north) 1 4 2 3 ≡ true
 unfolding badGeometry slotAt slotsRefuse le add sub mul
 refused = refl

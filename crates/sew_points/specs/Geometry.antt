@@ -21,36 +21,36 @@ use Rattle.sew_points.specs.declared.Vector.{Vector}
 use Rattle.sew_points.specs.declared.Slot.{Slot}
 use Rattle.sew_points.specs.declared.Slot.the-variants.{NoVertex, At}
 
--- "Differences per coordinate"
+-- the vector from b to a: coordinate by coordinate, each difference rounded
 abbrev pub minusOf : Point → Point → Vector
 minusOf a b = record { x = sub binary64 (a .x) (b .x); y = sub binary64 (a .y) (b .y); z = sub binary64 (a .z) (b .z) }
 
--- "the dot is taken as x product plus y product, plus z product, each operation rounded once."
+-- The dot product, rounded after each operation: x first, then y is added, then z (scope: 2-sew).
 abbrev pub dotOf : Vector → Vector → Float
 dotOf a b = add binary64 (add binary64 (mul binary64 (a .x) (b .x)) (mul binary64 (a .y) (b .y))) (mul binary64 (a .z) (b .z))
 
--- "(m1 minus ld) dot (m2 minus rd) >= 0": the 0 on the right
+-- what the product is compared with
 abbrev pub plusZero : Float
 plusZero = fin false 0 (pos 0)
 
--- "(m1 minus ld) dot (m2 minus rd) >= 0 gives 10 .. A NaN dot doesn't refuse.": `le` is false at a NaN
+-- Whether the edges from l to m1 and from r to m2 point the same way, or at a right angle. `le` is false at a NaN, which refuses nothing.
 abbrev pub sameWay : Point → Point → Point → Point → Bool
 sameWay l m2 m1 r = le plusZero (dotOf (minusOf m1 l) (minusOf m2 r))
 
--- "A point is three f64 coordinates kept together"
+-- three coordinates as one point
 abbrev pub point : Float → Float → Float → Point
 point a b c = record { x = a; y = b; z = c }
 
--- "n bytes saying defined (non-zero) or not, and 3n f64 values": true of each dart below n, however much more is lent
+-- slot d is within both loans, however much more is lent
 abbrev pub Lent : List ℕ → List Float → ℕ → Type 0
 Lent marks coords d = (d < length marks) × (3 * d + 2 < length coords)
 
--- "n bytes saying defined (non-zero) or not, and 3n f64 values .. a vertex slot reads as either no vertex or a point."
+-- slot d of the vertices: a point, or none where its mark is 0 (scope: vertices)
 unfoldable pub slotAt : List ℕ → List Float → ℕ → Slot
 slotAt marks coords d =
     cond (eqb (getD marks d 0) 0) NoVertex (At (getD coords (3 * d) nan) (getD coords (3 * d + 1) nan) (getD coords (3 * d + 2) nan))
 
--- "If the slots .. are all defined: (m1 minus ld) dot (m2 minus rd) >= 0 gives 10"
+-- four slots refuse only where each holds a point
 unfoldable pub slotsRefuse : Slot → Slot → Slot → Slot → Bool
 slotsRefuse NoVertex m2 m1 r = false
 slotsRefuse (At lx ly lz) NoVertex m1 r = false
@@ -59,7 +59,7 @@ slotsRefuse (At lx ly lz) (At m2x m2y m2z) (At m1x m1y m1z) NoVertex = false
 slotsRefuse (At lx ly lz) (At m2x m2y m2z) (At m1x m1y m1z) (At rx ry rz) =
     sameWay (point lx ly lz) (point m2x m2y m2z) (point m1x m1y m1z) (point rx ry rz)
 
--- "If the slots at the vertex identifiers of ld, m2, m1, rd are all defined: (m1 minus ld) dot (m2 minus rd) >= 0 gives 10"
+-- scope: 2-sew. The geometry test on the slots that four vertices name.
 unfoldable pub badGeometry : List ℕ → List Float → ℕ → ℕ → ℕ → ℕ → Bool
 badGeometry marks coords l m2 m1 r =
     slotsRefuse (slotAt marks coords l) (slotAt marks coords m2) (slotAt marks coords m1) (slotAt marks coords r)

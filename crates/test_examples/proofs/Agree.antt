@@ -1,4 +1,4 @@
--- The proved examples of document 01: each call of the table leaves what the document says (`agree`), computed from the definitions that the calls'
+-- The worked examples: each call of the table leaves what the table says (`agree`), computed from the definitions that the calls'
 -- contracts cite. Assumes nothing.
 use mathlib.Core.Path.{_≡_, refl}
 use lib.Ieee.{add as plus, sub, mul, le}

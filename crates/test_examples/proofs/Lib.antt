@@ -1,2 +1,2 @@
--- `Agree`: the one claim over the table of document 01's proved examples.
+-- `Agree`: the one claim over the table of worked examples.
 pub mod Agree

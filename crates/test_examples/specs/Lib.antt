@@ -1,4 +1,4 @@
--- The one table of document 01's proved examples.
+-- The one table of worked examples.
 --   Sews    the lines of the 1- and 2-sews and unsews
 --   Table   the whole table
 pub mod Sews

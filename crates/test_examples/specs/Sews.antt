@@ -1,7 +1,7 @@
--- The lines of the 1- and 2-sews and unsews, document 01's two lines of a 2-sew among them.
+-- The lines of the 1- and 2-sews and unsews, the two worked 2-sews among them.
 --   lone, flap, flap-sewn       maps: two darts; dart 1 with a beta 2 image; the same with 2 behind 1
 --   strips, strips-sewn         open 1 2; 3 4, and these with 1 and 3 2-linked
---   bent, bent-sewn             "n=4 b1(3)=2 b3(1)=2", where a plan names a vertex that an entry before it has merged, and the same with 1 and 3 2-linked
+--   bent, bent-sewn             n=4 b1(3)=2 b3(1)=2, where a plan names a vertex that an entry before it has merged, and the same with 1 and 3 2-linked
 --   marked, none, places        vertices: slots 1 to 4 hold points, no slot does, the points
 --   lines                       the table
 use Prim.Native.Nat.{ℕ}
@@ -73,10 +73,10 @@ lines =
     ∷ line (oneUnsew lone zeros3 zeros3 sevens 1) (leaving (Refused (AlreadyFree 1 1)) lone zeros3 sevens)
     -- the second unlink reads the rows as written so far
     ∷ line (oneUnsew pair-linked zeros3 zeros3 sevens 1) (leaving (Refused (AsymmetricalFaces 1 2)) pair-linked zeros3 sevens)
-    -- "open 1 2; 3 4 at (0,0,0) (1,0,0); (1,0,0) (0,0,0)": 2:1,1,3; 1:1,1,4; 1:2,2,3
+    -- the edges run against each other: 2:1,1,3; 1:1,1,4; 1:2,2,3
     ∷ line (twoSew strips zeros5 zeros5 marked (places origin east east origin) sevens 1 3)
     (leaving (Done 0 3) strips-sewn zeros5 (row 2 1 1 3 ++ row 1 1 1 4 ++ row 1 2 2 3))
-    -- "same, but 3 at (0,0,0) and 4 at (0,1,0)": 10
+    -- the edges stand at a right angle: 10
     ∷ line (twoSew strips zeros5 zeros5 marked (places origin east origin north) sevens 1 3)
     (leaving (Refused (BadGeometry 2 1 3)) strips zeros5 sevens)
     -- names are taken before linking

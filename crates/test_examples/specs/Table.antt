@@ -1,8 +1,8 @@
--- The proved examples ("P") of document 01, all of them, as one table; `proofs/Agree.antt` has the one claim over it.
+-- The worked examples, all of them (scope: examples), as one table; `proofs/Agree.antt` has the one claim over it.
 --   Shown             what a line shows: an answer, the rows and the plan that a call leaves
 --   ofLink, ofFace, ofSew   what a link, a face identifier, and a sew or unsew show
 --   seen f lines      lines of another crate, as shown by f
---   faceLines         "open 1 2: face of 2; of 1" is "2; 1", and the maps that tell the walk of `face_id` from its variants
+--   faceLines         the open chain 1, 2, and the maps that tell the walk of `face_id` from its variants
 --   table             the lines of links, faces, sews and unsews
 use Prim.Native.Nat.{ℕ}
 use mathlib.Core.List.{List, [], _∷_, _++_}

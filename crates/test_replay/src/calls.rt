@@ -74,7 +74,7 @@ fn vertices(setting: u32) -> [u8; 8] {
     [1u8; 8]
 }
 
-// The coordinates of document 01's two 2-sews: 2 is at (1,0,0); 3 is there too (setting 1), or 4 is at (0,1,0); all else is at (0,0,0).
+// The coordinates of the two worked 2-sews: 2 is at (1,0,0); 3 is there too (setting 1), or 4 is at (0,1,0); all else is at (0,0,0).
 fn points(setting: u32) -> [f64; 24] {
     let mut coordinates = [0.0f64; 24];
     if setting == 0 {
@@ -89,7 +89,7 @@ fn points(setting: u32) -> [f64; 24] {
     coordinates
 }
 
-// The sews and unsews; a 2-sew is without vertices (setting 0), or with those of document 01's two lines.
+// The sews and unsews; a 2-sew is without vertices (setting 0), or with those of the two worked ones.
 fn sew(
     operation: u32,
     setting: u32,

@@ -1,6 +1,6 @@
 //! The maps that are measured.
 
-/// A map and its vertices, as document 01 has them.
+/// A map and its vertices, as they are lent.
 pub struct Grid {
     pub rows: Vec<u32>,
     pub vertex_marks: Vec<u8>,

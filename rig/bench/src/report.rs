@@ -279,7 +279,7 @@ impl Report<'_> {
             }
         }
         self.goal("No line slower than a peer's at the same promise", 1.0, &rows);
-        self.say("\nThe same promise is: the map is tested, then the line, and lent scratch is left at 0. A peer's time is its own line plus a map test, for CGAL its `is_valid`; the published Rust has none and is given ours. To a single call the clearing is added which document 01 asks for and a peer does not make, as timed apart: n marks and n places of the queue for identifiers and sews, n marks for orbits, nothing for links. Against the published Rust a single call is therefore about even by construction.");
+        self.say("\nThe same promise is: the map is tested, then the line, and lent scratch is left at 0. A peer's time is its own line plus a map test, for CGAL its `is_valid`; the published Rust has none and is given ours. To a single call the clearing is added which the scope asks for and a peer does not make, as timed apart: n marks and n places of the queue for identifiers and sews, n marks for orbits, nothing for links. Against the published Rust a single call is therefore about even by construction.");
         let text = if bare.is_empty() {
             "no list is slower than a peer's".to_string()
         } else {
@@ -319,7 +319,7 @@ pub fn report(times: &Times, inputs: &Inputs, machine: &Machine) -> String {
     r.say("- Times are the thread's own processor time: median of several runs spread over the whole time, then least..most. Whoever else uses the machine still takes cache and memory from it, which the spread shows.");
     r.say("- The maps are grids of cubes with 10, 20 and 34 cubes a side, dart by dart the same in all three: the program compares the rows, every list and every identifier, and ends if any differs.");
     r.say("- The published Rust reads and writes through transactions. Its transaction crate is not at hand; a stand-in for one thread is used, which does less than the real one. Its merges and splits of attributes are recorded and not carried out.");
-    r.say("- Ours tests the whole map in every call below and says so if it is none; neither peer does. CGAL's `is_valid` is the nearest: it does not have to test that images are in range, and it does test that beta 3 reverses faces, which document 01 does not ask of a map.");
+    r.say("- Ours tests the whole map in every call below and says so if it is none; neither peer does. CGAL's `is_valid` is the nearest: it does not have to test that images are in range, and it does test that beta 3 reverses faces, which the scope does not ask of a map.");
     r.say("\n![time against darts](benchmark.svg)\n");
     r.say("## Whole map");
     r.say("\nA list of ours contains one map test, which stands in its own line, and leaves its scratch at 0. Ratios above 1 mean that ours is faster.");

@@ -1,4 +1,4 @@
-/* Document 01's examples from C, through the header: prints nothing and ends with 0 if all hold. */
+/* The worked examples (scope: examples) from C, through the header: prints nothing and ends with 0 if all hold. */
 #include "inkcapper.h"
 
 #include <stdio.h>

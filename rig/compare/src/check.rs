@@ -32,7 +32,7 @@ impl Finding {
 #[derive(Default, Clone)]
 pub struct Count {
     pub calls: u64,
-    /// By document 01's number, 0 to 12.
+    /// By the answer's number, 0 to 12.
     pub answers: [u64; 13],
     /// Comparisons by kernel, in the kernels' order.
     pub compared: Vec<u64>,

@@ -92,7 +92,7 @@ pub enum Call {
     ReadImage,
 }
 
-/// The calls by name, in document 01's order.
+/// The calls by name, in the order of the scope.
 pub const NAMES: [&str; 34] = [
     "beta",
     "is_i_free",

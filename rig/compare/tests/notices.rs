@@ -172,7 +172,7 @@ fn plan_remainder_touched() {
     });
 }
 
-/// 2-sews whose dot is `dot` instead of document 01's.
+/// 2-sews whose dot is `dot` instead of the scope's.
 fn other_dot(dot: fn([f64; 3], [f64; 3]) -> bool) -> (&'static str, usize) {
     found(move |call, before, loans, answer| {
         let &Call::TwoSew { ld, rd } = call else { return answer };

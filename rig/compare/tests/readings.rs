@@ -138,7 +138,7 @@ fn a_three_unlink_without_a_walk() {
 }
 
 #[test]
-fn face_id_is_least_where_document_01_says_so() {
+fn face_id_is_least_on_regular_faces() {
     let mut least = 0;
     for k in 1..=4 {
         maps::all_of(k, |rows| {

@@ -13,11 +13,11 @@ pub enum Answer {
         /// Darts for orbits, lists and the reader; entries for plans.
         count: u64,
     },
-    /// Refused; rows, vertices, plan and output are unchanged.
+    /// Refused; rows, vertices, plan and output are as they were (scope: what is left).
     Refused(Refusal),
 }
 
-/// The refusals, with their values.
+/// The refusals, with their values (scope: numbers).
 #[must_use = "a refusal says what the call has not done"]
 #[derive(Debug, Clone, Copy, PartialEq, Eq, Hash)]
 pub enum Refusal {

@@ -1,8 +1,8 @@
 //! The functions with C linkage, as `include/inkcapper.h` declares them.
 //!
 //! A slice is a pointer and a length in elements. Parameters stand in one order: rows, the loans by
-//! document 01's numbers (marks, queue, output, flags, vertex marks, coordinates), plan, numbers, and
-//! last the place for the three values. Each returns document 01's number.
+//! their numbers (marks, queue, output, flags, vertex marks, coordinates), plan, numbers, and
+//! last the place for the three values. Each returns the answer's number.
 
 /// Where the three values go.
 pub type Values = *mut [u64; 3];

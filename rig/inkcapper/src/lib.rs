@@ -6,6 +6,8 @@
 //! - [`Loans`] holds scratch, output and plan and grows them, for callers that hold rows alone.
 //! - [`Answer`] and [`Refusal`] are what calls answer, as types; each says its number.
 //!
+//! The exact rules are docs/SCOPE.md, whose paragraphs are cited by name (scope: 3-link).
+//!
 //! Nothing here panics, whatever the arguments: every test is the library's, and it refuses.
 //!
 //! With the feature `linked` the build looks for the proved library (see build.rs). Without it the C

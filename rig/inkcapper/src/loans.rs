@@ -13,13 +13,13 @@ pub enum Cell {
     Vertex,
     /// Least dart of the Edge orbit.
     Edge,
-    /// honeycomb's `face_id`.
+    /// honeycomb's `face_id` (scope: face_id).
     Face,
     /// Least dart of the Volume orbit.
     Volume,
 }
 
-/// Orbits, as honeycomb's `OrbitPolicy`.
+/// Orbits, as honeycomb's `OrbitPolicy` (scope: steps).
 #[derive(Debug, Clone, Copy, PartialEq, Eq, Hash)]
 pub enum Orbit<'a> {
     /// 0-cell.
@@ -49,7 +49,7 @@ pub enum Kind {
     Split,
 }
 
-/// An entry of a plan: what is to be merged or split in the caller's own stores, in order.
+/// An entry of a plan (scope: plan): what is to be merged or split in the caller's own stores, in order.
 #[derive(Debug, Clone, Copy, PartialEq, Eq, Hash)]
 pub struct Entry {
     /// The class of the cells.
@@ -103,7 +103,7 @@ pub struct Vertices<'a> {
 /// What the reader took out of an image.
 #[derive(Debug, Clone, PartialEq)]
 pub struct Image {
-    /// Beta 0, 1, 2, 3 of dart 0, then of dart 1, and so on.
+    /// The four images of each dart, dart after dart (scope: rows).
     pub rows: Vec<u32>,
     /// 1 where the dart is unused.
     pub flags: Vec<u8>,
@@ -249,7 +249,7 @@ impl Loans {
         Ok(Sewn { dart, plan: &self.entries })
     }
 
-    /// 1-sews `ld` to `rd`.
+    /// 1-sews `ld` to `rd` (scope: 1-sew).
     ///
     /// # Errors
     ///
@@ -267,7 +267,7 @@ impl Loans {
         self.with_plan(rows, |rows, marks, queue, plan| slices::one_unsew(rows, marks, queue, plan, ld))
     }
 
-    /// 2-sews `ld` and `rd`.
+    /// 2-sews `ld` and `rd` (scope: 2-sew).
     ///
     /// # Errors
     ///
@@ -287,7 +287,7 @@ impl Loans {
         self.with_plan(rows, |rows, marks, queue, plan| slices::two_unsew(rows, marks, queue, plan, ld))
     }
 
-    /// 3-unsews the face of `ld`.
+    /// 3-unsews the face of `ld` (scope: 3-unsew).
     ///
     /// # Errors
     ///
@@ -297,7 +297,7 @@ impl Loans {
     }
 }
 
-/// Reads a stored image of form 1 into loans of its size.
+/// Reads a stored image of form 1 into loans of its size (scope: reader).
 ///
 /// ```
 /// # #[cfg(not(feature = "linked"))] extern crate c_names;

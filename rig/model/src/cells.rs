@@ -25,7 +25,7 @@ pub enum Orbit<'a> {
     Custom(&'a [u8]),
 }
 
-/// Where one turn of the search leads from `d`, in document 01's order, null images dropped later.
+/// Where one turn of the search leads from `d`, in the order of scope: steps; null images are dropped later.
 fn steps(rows: &[u32], orbit: Orbit<'_>, d: u32, found: &mut Vec<u32>) {
     let b = |i: usize| image(rows, i, d);
     // the inner beta is the one written last
@@ -67,7 +67,7 @@ pub(crate) fn orbit_of(rows: &[u32], orbit: Orbit<'_>, d: u32) -> Vec<u32> {
 }
 
 /// `face_id`: a walk along both sides of the face, first forward, then, if a side ended, backward.
-/// Document 01 points at the Rust here instead of saying it all; this is its walk in words.
+/// The Rust's walk once more (scope: face_id).
 ///
 /// It stops at a pair of which neither dart is new. A left dart that is new is marked, and the
 /// right one is then neither looked at nor marked. The minimum is taken over the first pair and

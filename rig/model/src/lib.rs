@@ -1,10 +1,10 @@
-//! Document 01, written down once more: every call, plainly, from its prose.
+//! The scope (docs/SCOPE.md) written down once more: every call, plainly, from its prose.
 //!
 //! This is what a kernel is held against where the published Rust has no say: refusals 1 to 5, 11
 //! and 12, what becomes of each loan, the image reader and the report. Where the Rust has a say the
 //! two are held against each other. So this text knows nothing of the Rust's, and takes the short
 //! way everywhere: it works on a copy of the rows and puts the copy back when all went well, which
-//! makes "a refusal changes nothing" true by its shape.
+//! makes true by its shape that a refusal changes nothing.
 //!
 //! Parameters stand in the order of the C boundary: rows, loans by number, plan, numbers.
 //!
@@ -31,7 +31,7 @@ pub use links::{
 };
 pub use sews::{one_sew, one_unsew, three_unsew, two_sew, two_unsew};
 
-/// Document 01's number and its three values, 0 where absent.
+/// An answer's number and its three values, 0 where absent (scope: numbers).
 pub type Answer = (u32, [u64; 3]);
 
 /// The most darts that a map may have, the null dart counted.

@@ -1,10 +1,10 @@
 //! The published Rust text of honeycomb-core's 3-map, compiled as it stands and made to answer in
-//! document 01's numbers and values.
+//! the scope's numbers and values.
 //!
 //! README.md says which files are compiled, which were not at hand and what stands in for them.
 //!
 //! The oracle speaks for what the Rust decides: what is done, and refusals 6 to 10. It expects a
-//! well-formed map and darts that document 01 lets through; on anything else the text may index
+//! well-formed map and darts that the library lets through; on anything else the text may index
 //! out of bounds (a panic) or walk for ever.
 
 use std::cell::RefCell;
@@ -27,10 +27,10 @@ use stm::{Transaction, TransactionClosureResult, atomically, atomically_with_err
 /// The text's files that were compiled: path under `honeycomb-core/src`, bytes, FNV-1a hash.
 pub const TEXT: &[(&str, usize, u64)] = &include!(concat!(env!("OUT_DIR"), "/text.rs"));
 
-/// Document 01's number and its three values, 0 where absent.
+/// An answer's number and its three values, 0 where absent (scope: numbers).
 pub type Answer = (u32, [u64; 3]);
 
-/// A plan entry in document 01's form: code, then its three identifiers.
+/// A plan entry as it is lent: code, then its three identifiers (scope: plan).
 pub type Entry = [u32; 4];
 
 /// The classes of cells that have an identifier and a list.
@@ -42,7 +42,7 @@ pub enum Cell {
     Volume,
 }
 
-/// The orbits of document 01.
+/// The orbits (scope: steps).
 #[derive(Debug, Clone, Copy, PartialEq, Eq)]
 pub enum Orbit<'a> {
     Vertex,
@@ -276,7 +276,7 @@ fn sewn(f: impl Fn(&mut Transaction) -> TransactionClosureResult<u32, SewError>)
     }
 }
 
-/// Document 01's entries. The text asks `vertices` and then the vertex attributes, with the same
+/// The plan's entries. The text asks `vertices` and then the vertex attributes, with the same
 /// identifiers; that pair is one entry. Anything else about vertices would be a finding.
 fn entries(log: &[Record]) -> Vec<Entry> {
     let mut plan = Vec::new();
@@ -293,7 +293,7 @@ fn entries(log: &[Record]) -> Vec<Entry> {
             (Asked::Attributes(1), false) => 2,
             (Asked::Attributes(1), true) => 12,
             (Asked::Attributes(2), true) => 13,
-            _ => panic!("document 01 has no code for {:?}", log[at]),
+            _ => panic!("the plan has no code for {:?}", log[at]),
         };
         plan.push([code, ids[0], ids[1], ids[2]]);
         at += 1;

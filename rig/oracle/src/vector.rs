@@ -34,7 +34,7 @@ impl CoordsFloat for f64 {}
 pub struct Vector3<T: CoordsFloat>(pub T, pub T, pub T);
 
 impl<T: CoordsFloat> Vector3<T> {
-    /// x product plus y product, plus z product, each operation rounded once, as document 01 has
+    /// x product plus y product, plus z product, each operation rounded once, as the scope has
     /// it. Rust never fuses a product and a sum by itself.
     pub fn dot(&self, other: &Self) -> T {
         self.0 * other.0 + self.1 * other.1 + self.2 * other.2

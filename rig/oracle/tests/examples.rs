@@ -1,4 +1,4 @@
-//! Document 01's examples through the text itself: the oracle is put together rightly.
+//! The worked examples (scope: examples) through the text itself: the oracle is put together rightly.
 
 use oracle::{Cell, Oracle, Orbit};
 

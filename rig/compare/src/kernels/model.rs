@@ -1,8 +1,8 @@
-//! Document 01's own answers.
+//! The scope's own answers.
 
 use crate::kernel::{Answer, Call, Kernel, Loans, Orbit};
 
-/// Document 01 as written down in the crate `model`.
+/// The scope as written down in the crate `model`.
 pub struct Model;
 
 /// Reads, the map test, links and unlinks.

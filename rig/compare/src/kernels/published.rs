@@ -4,7 +4,7 @@ use oracle::Oracle;
 
 use crate::kernel::{Answer, Call, Cell, Kernel, Loans, Orbit};
 
-/// The published Rust, with document 01's plan room put on top.
+/// The published Rust, with the scope's plan room put on top.
 #[derive(Default)]
 pub struct Published {
     oracle: Option<Oracle>,

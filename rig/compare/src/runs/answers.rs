@@ -24,7 +24,7 @@ fn line(call: &Call, note: &str, before: &[u32], (number, [a, b, c]): Answer, lo
     format!("{} | {before} | {number} {a} {b} {c} | {after} | {written}", name.trim_end())
 }
 
-/// Vertices for 2-sews: none for 0; for 1 and 2 those of document 01's two lines, 2 at (1,0,0), and 3
+/// Vertices for 2-sews: none for 0; for 1 and 2 those of the two worked 2-sews, 2 at (1,0,0), and 3
 /// there too or 4 at (0,1,0), all else at (0,0,0).
 fn put_points(loans: &mut Loans, points: usize) {
     loans.vertex_marks.fill(u8::from(points > 0));

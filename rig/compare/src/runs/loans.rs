@@ -3,7 +3,7 @@
 use crate::kernel::Loans;
 use crate::random::Random;
 
-/// Slots as document 01 allows them: defined or not, any coordinates, slot 0 like any other.
+/// Slots as they may be lent (scope: vertices): defined or not, any coordinates, slot 0 like any other.
 pub(super) fn fill_vertices(random: &mut Random, loans: &mut Loans, defined: usize) {
     for mark in &mut loans.vertex_marks {
         // any byte but 0 means defined

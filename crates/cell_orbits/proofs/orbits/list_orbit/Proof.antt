@@ -1,6 +1,5 @@
 -- `orbits::list_orbit` meets its contract: wiped marks, and the core on the first n of them. Assumes nothing.
 use mathlib.Core.Path.{sym, ap}
-use mathlib.Core.List.{List}
 use Prim.Native.Nat.{ℕ}
 use Rattle.map_betas.specs.declared.error.Answer.the-variants.{Done}
 use Rattle.map_betas.specs.Betas.{darts}

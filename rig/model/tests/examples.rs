@@ -1,4 +1,4 @@
-//! Document 01's table of examples, and its report example, through the model.
+//! The worked examples (scope: examples), and the triangle's report, through the model.
 
 use model::Answer;
 

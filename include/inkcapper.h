@@ -10,12 +10,14 @@
  *
  * ANSWERS (scope: numbers, order). Every function returns one of the numbers below and always writes three
  * values, 0 where absent. When done, values[0] is the dart or yes/no answered (0 where none), values[1]
- * the count written (darts for orbits, lists and the reader, entries for plans; 0 where none) and values[2]
- * is 0. Refusals 1 to 5 come first, in that order, then 6 to 10, whichever is met first, and 11 last.
+ * the count written (darts for orbits, lists and the reader, entries for plans, bytes for the writer; 0
+ * where none) and values[2] is 0. Refusals 1 to 5 come first, in that order, then 6 to 10, whichever is met
+ * first, and 11 last; the reader and the writer say their own order.
  *
- * WHAT IS LEFT (scope: what is left, scratch). A refusal leaves rows, vertices, plan and output as they
- * were. A refusal from 1 to 5 leaves scratch (marks and queue) too; any other answer wipes its first n
- * places to 0 and leaves the rest. Places of output and plan behind the count are never written.
+ * WHAT IS LEFT (scope: what is left, scratch). A refusal leaves rows, vertices, plan, output and bytes as
+ * they were. A refusal from 1 to 5 leaves scratch (marks and queue) too; any other answer wipes its first n
+ * places to 0 and leaves the rest. Places of output and plan behind the count are never written, nor are
+ * bytes behind an image.
  *
  * THE CALLER'S DUTIES. Everything else is tested by the call; these three it cannot test.
  *   Lengths: a slice is a pointer and a length in elements (not bytes), and that many elements can be
@@ -27,8 +29,9 @@
  *     other thread touches it meanwhile.
  * A call keeps no pointer after it returns, allocates nothing and has no state of its own.
  *
- * COSTS. Every call but the reads and the reader makes one pass over the rows first. Lists take time linear
- * in the darts, but for list_faces on faces that are not regular; what grows faster is said at the call.
+ * COSTS. Every call but the reads and the reader makes one pass over the rows first. Lists, the reader and
+ * the writer take time linear in the darts, but for list_faces on faces that are not regular; what grows
+ * faster is said at the call.
  *
  * LOANS (scope: loans). Sizes are least sizes; more is allowed and left alone.
  *   1 marks          n bytes      scratch
@@ -38,6 +41,7 @@
  *   5 vertex marks   n bytes      non-zero means that the dart's slot holds a point
  *   6 coordinates    3n doubles   x, y, z of each slot
  *   7 rows           4n u32       for the reader alone
+ * The writer's bytes have no number here: where they are too few it says how many it needs.
  *
  * PLAN (scope: plan). What a sew or unsew asks of the caller's own stores, in order, as entries of four
  * u32: a code; then for a merge the cell that stays, the left and the right one, for a split the left and
@@ -57,7 +61,7 @@ extern "C" {
 enum inkcapper_number {
     INKCAPPER_DONE = 0,                /* dart or yes/no, count written */
     INKCAPPER_BAD_SIZE = 1,            /* how long the rows are: nothing, no multiple of 4, or too many darts */
-    INKCAPPER_SHORT_LOAN = 2,          /* which loan: the first that is too short; never the plan */
+    INKCAPPER_SHORT_LOAN = 2,          /* which loan: the first that is too short; never the plan or the bytes */
     INKCAPPER_NOT_A_MAP = 3,           /* beta, dart: the first image that breaks a rule, by dart and then by beta */
     INKCAPPER_BAD_DART = 4,            /* which dart argument, 1 or 2: not of the map, or 0 where that is refused */
     INKCAPPER_BAD_BETA = 5,            /* the number: a beta above 3, alone or first in a list */
@@ -67,7 +71,8 @@ enum inkcapper_number {
     INKCAPPER_ASYMMETRICAL_FACES = 9,  /* ld, rd: the two faces do not go together */
     INKCAPPER_BAD_GEOMETRY = 10,       /* 2, ld, rd: the two edges do not point against each other */
     INKCAPPER_PLAN_ROOM = 11,          /* entries needed: more than the plan has room for */
-    INKCAPPER_BAD_IMAGE = 12           /* header word 0 to 6, or 7 for flags, 8 for vertices */
+    INKCAPPER_BAD_IMAGE = 12,          /* header word 0 to 6, or 7 for flags, 8 for vertices */
+    INKCAPPER_IMAGE_ROOM = 14          /* bytes needed: more than are lent */
 };
 
 /* The loans as INKCAPPER_SHORT_LOAN names them. */
@@ -319,6 +324,18 @@ uint32_t inkcapper_read_image(const uint8_t *bytes, size_t bytes_len,
                               uint8_t *vertex_marks, size_t vertex_marks_len,
                               double *coordinates, size_t coordinates_len,
                               uint32_t *rows, size_t rows_len, uint64_t values[3]);
+
+/* ---- The writer (scope: form 1, writer) ---- */
+
+/* Writes a stored image of form 1 from the start of bytes, 28 + 17n + 28v of them for v points, and counts
+ * them: the rows, each flag as 0 or 1, and a record for each defined slot from 1 on, ascending, with the bits
+ * of its coordinates. Slot 0 and the coordinates of undefined slots are not looked at. Refuses 1, 2 and 3,
+ * then 12 with 7 if the flag of dart 0 is not 0, with 8 if a point has a NaN or an infinity, and 14 last. */
+uint32_t inkcapper_write_image(const uint32_t *rows, size_t rows_len,
+                               const uint8_t *flags, size_t flags_len,
+                               const uint8_t *vertex_marks, size_t vertex_marks_len,
+                               const double *coordinates, size_t coordinates_len,
+                               uint8_t *bytes, size_t bytes_len, uint64_t values[3]);
 
 #ifdef __cplusplus
 }

@@ -11,9 +11,8 @@ import os
 import struct
 import sys
 
-sys.path.insert(0, os.path.join(os.path.dirname(os.path.abspath(__file__)), "..", "..", "examples"))
-import noise  # noqa: E402
-from make_examples import cube_mesh, image, loops, mesh, open_strip, tetrahedron  # noqa: E402
+import noise
+from meshes import cube_mesh, image, loops, mesh, open_strip, tetrahedron
 
 NAN = struct.unpack("<d", struct.pack("<Q", 0x7FF8000000000000))[0]
 INF = float("inf")

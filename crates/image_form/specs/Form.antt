@@ -1,8 +1,10 @@
 -- The stored image, form 1: where each thing stands in its bytes, and which bytes are one.
 --   Form, form1                what a form fixes: its number, and the bytes that it keeps of a dart's images
 --   rowOffset, flagOffset, vertexOffset, totalBytes   where its blocks start, and where the last ends
+--   headerWords f n v          what the header of n darts and v records says
 --   headerWord bytes k         word k of the header
 --   dartsOf, verticesOf        n and v: words 2 and 5
+--   headerSays f bytes k       what word k has to be
 --   rowsOf bytes n             the images of n darts, as rows
 --   flagAt bytes n d           the flag of dart d
 --   recordAt n k               where vertex record k starts
@@ -10,7 +12,7 @@
 --   Header, Flags, Sound, Vertices, IsImage   the rules as laws; the crate `image_reader` has that its reader accepts exactly where they hold
 use Prim.Native.Nat.{ℕ, _+_, _*_, _<_, _≤_}
 use mathlib.Core.Path.{_≡_}
-use mathlib.Core.List.{List}
+use mathlib.Core.List.{List, [], _∷_}
 use mathlib.Core.Bool.{true}
 use lib.ListN.{length, getD}
 use lib.Ieee.{Float}
@@ -38,7 +40,11 @@ vertexOffset f n = flagOffset f n + n
 abbrev pub totalBytes : Form → ℕ → ℕ → ℕ
 totalBytes f n v = vertexOffset f n + 28 * v
 
--- word k of the seven (scope: form 1): form, bytes in all, n, where the rows and the flags are, v, where the records are
+-- the seven words (scope: form 1): form, bytes in all, n, where the rows and the flags are, v, where the records are
+abbrev pub headerWords : Form → ℕ → ℕ → List ℕ
+headerWords f n v = f .number ∷ totalBytes f n v ∷ n ∷ rowOffset ∷ flagOffset f n ∷ v ∷ vertexOffset f n ∷ []
+
+-- word k of the seven
 abbrev pub headerWord : List ℕ → ℕ → ℕ
 headerWord bytes k = word32 bytes (4 * k)
 
@@ -47,6 +53,10 @@ dartsOf bytes = headerWord bytes 2
 
 abbrev pub verticesOf : List ℕ → ℕ
 verticesOf bytes = headerWord bytes 5
+
+-- what word k has to be, by the n and the v that the header says
+abbrev pub headerSays : Form → List ℕ → ℕ → ℕ
+headerSays f bytes k = getD (headerWords f (dartsOf bytes) (verticesOf bytes)) k 0
 
 -- the blocks behind the header: the rows, then the flags, then the records
 abbrev pub rowsOf : List ℕ → ℕ → List ℕ
@@ -67,15 +77,15 @@ recordCoordinate bytes at j = coordinateAt bytes (at + (4 + 8 * j))
 -- the header of an image of at most `most` darts
 pub record Header (f : Form) (most : ℕ) (bytes : List ℕ) : Type 0 where
   pub whole : 28 ≤ length bytes
-  pub form : headerWord bytes 0 ≡ f .number
+  pub form : headerWord bytes 0 ≡ headerSays f bytes 0
   pub total : headerWord bytes 1 ≡ length bytes
   pub some : 1 ≤ dartsOf bytes
   pub few : dartsOf bytes ≤ most
-  pub rowsStart : headerWord bytes 3 ≡ rowOffset
-  pub flagsStart : headerWord bytes 4 ≡ flagOffset f (dartsOf bytes)
+  pub rowsStart : headerWord bytes 3 ≡ headerSays f bytes 3
+  pub flagsStart : headerWord bytes 4 ≡ headerSays f bytes 4
   pub vertexCount : verticesOf bytes < dartsOf bytes
-  pub fits : length bytes ≡ totalBytes f (dartsOf bytes) (verticesOf bytes)
-  pub verticesStart : headerWord bytes 6 ≡ vertexOffset f (dartsOf bytes)
+  pub fits : length bytes ≡ headerSays f bytes 1
+  pub verticesStart : headerWord bytes 6 ≡ headerSays f bytes 6
 
 -- each flag is 0 or 1, and dart 0 is in use
 pub record Flags (bytes : List ℕ) (n : ℕ) : Type 0 where

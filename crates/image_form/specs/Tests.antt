@@ -16,8 +16,8 @@ use Rattle.map_betas.specs.declared.error.Answer.{Answer}
 use Rattle.map_betas.specs.declared.error.Answer.the-variants.{Refused}
 use Rattle.map_betas.specs.declared.error.Refusal.the-variants.{BadImage}
 use Rattle.map_betas.specs.Answers.{pass, andThen}
-use Rattle.image_form.specs.Form.{form1, rowOffset, flagOffset, vertexOffset, totalBytes}
-use Rattle.image_form.specs.Form.{headerWord, dartsOf, verticesOf, flagAt, recordDart, recordCoordinate}
+use Rattle.image_form.specs.Form.{form1, flagOffset, vertexOffset}
+use Rattle.image_form.specs.Form.{headerWord, headerSays, dartsOf, verticesOf, flagAt, recordDart, recordCoordinate}
 
 unfoldable pub unless : Bool → ℕ → Answer → Answer
 unless good k more = cond good more (Refused (BadImage k))
@@ -26,7 +26,7 @@ unless good k more = cond good more (Refused (BadImage k))
 unfoldable pub startTest : List ℕ → Answer
 startTest bytes =
     unless (leb 4 (length bytes)) 1
-    (unless (eqb (headerWord bytes 0) (form1 .number)) 0
+    (unless (eqb (headerWord bytes 0) (headerSays form1 bytes 0)) 0
     (unless (leb 28 (length bytes)) 1
     (unless (eqb (headerWord bytes 1) (length bytes)) 1 pass)))
 
@@ -35,11 +35,11 @@ unfoldable pub layoutTest : ℕ → List ℕ → Answer
 layoutTest most bytes =
     unless (leb 1 (dartsOf bytes)) 2
     (unless (leb (dartsOf bytes) most) 2
-    (unless (eqb (headerWord bytes 3) rowOffset) 3
-    (unless (eqb (headerWord bytes 4) (flagOffset form1 (dartsOf bytes))) 4
+    (unless (eqb (headerWord bytes 3) (headerSays form1 bytes 3)) 3
+    (unless (eqb (headerWord bytes 4) (headerSays form1 bytes 4)) 4
     (unless (ltb (verticesOf bytes) (dartsOf bytes)) 5
-    (unless (eqb (length bytes) (totalBytes form1 (dartsOf bytes) (verticesOf bytes))) 5
-    (unless (eqb (headerWord bytes 6) (vertexOffset form1 (dartsOf bytes))) 6 pass))))))
+    (unless (eqb (length bytes) (headerSays form1 bytes 1)) 5
+    (unless (eqb (headerWord bytes 6) (headerSays form1 bytes 6)) 6 pass))))))
 
 abbrev pub headerTest : ℕ → List ℕ → Answer
 headerTest most bytes = andThen (startTest bytes) (layoutTest most bytes)

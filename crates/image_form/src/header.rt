@@ -1,7 +1,11 @@
 // The header test: the first wrong word is named.
 use crate::form::DARTS_AT;
+use crate::form::FLAGS_AT;
 use crate::form::FORM;
+use crate::form::RECORDS_AT;
 use crate::form::ROW_OFFSET;
+use crate::form::ROWS_AT;
+use crate::form::TOTAL_AT;
 use crate::form::VERTICES_AT;
 use crate::form::flag_offset;
 use crate::form::total_bytes;
@@ -29,7 +33,7 @@ fn start_test(bytes: &[u8]) -> Answer
     if k < 28 {
         return Answer::Refused(Refusal::BadImage(1));
     }
-    if word_at(bytes, 4) as usize != k {
+    if word_at(bytes, TOTAL_AT) as usize != k {
         return Answer::Refused(Refusal::BadImage(1));
     }
     Answer::Done(0, 0)
@@ -47,10 +51,10 @@ fn layout_test(bytes: &[u8], most: u32) -> Answer
     if most < n {
         return Answer::Refused(Refusal::BadImage(2));
     }
-    if word_at(bytes, 12) != ROW_OFFSET {
+    if word_at(bytes, ROWS_AT) != ROW_OFFSET {
         return Answer::Refused(Refusal::BadImage(3));
     }
-    if word_at(bytes, 16) != flag_offset(n) {
+    if word_at(bytes, FLAGS_AT) != flag_offset(n) {
         return Answer::Refused(Refusal::BadImage(4));
     }
     let v = word_at(bytes, VERTICES_AT);
@@ -60,7 +64,7 @@ fn layout_test(bytes: &[u8], most: u32) -> Answer
     if bytes.len() != total_bytes(n, v) as usize {
         return Answer::Refused(Refusal::BadImage(5));
     }
-    if word_at(bytes, 24) != vertex_offset(n) {
+    if word_at(bytes, RECORDS_AT) != vertex_offset(n) {
         return Answer::Refused(Refusal::BadImage(6));
     }
     Answer::Done(0, 0)

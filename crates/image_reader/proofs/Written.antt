@@ -1,7 +1,9 @@
 -- What a reading answers and writes, in one place. Assumes nothing.
+--   slot-marks, slot-coordinates   the slots of an image are as many as its darts
 --   read-iff        a reading is done exactly where the bytes are an image of a well-formed map and the loans are long enough
 --   refused-keeps   a refusal leaves every loan as it was
 --   answer-is       a reading that is done answers (0, n)
+--   rows-are, flags-are, vertices-are, coordinates-are   what the loans hold, as lists
 --   rows-say, flags-say   what it writes is the image's images and flags
 --   vertex-says     the slot that a record names: mark 1 and the record's coordinates
 --   no-vertex-says  any other slot: mark 0 and positive zeros
@@ -42,11 +44,11 @@ behind a old m k d e h =
 
 -- the slots have n marks and 3n coordinates
 
-slot-marks : (bytes : List ℕ) (n v : ℕ) → length (slotsOf bytes n v .marks) ≡ n
+pub slot-marks : (bytes : List ℕ) (n v : ℕ) → length (slotsOf bytes n v .marks) ≡ n
 unfolding slotsOf
 slot-marks bytes n v = marks-length v bytes (vertexOffset form1 n) (emptySlots n) ∙ listed-length (λ (k : ℕ). 0) n
 
-slot-coordinates : (bytes : List ℕ) (n v : ℕ) → length (slotsOf bytes n v .coordinates) ≡ 3 * n
+pub slot-coordinates : (bytes : List ℕ) (n v : ℕ) → length (slotsOf bytes n v .coordinates) ≡ 3 * n
 unfolding slotsOf
 slot-coordinates bytes n v = coordinates-length v bytes (vertexOffset form1 n) (emptySlots n) ∙ listed-length (λ (k : ℕ). plusZero) (3 * n)
 
@@ -104,19 +106,19 @@ module _ (most : ℕ) (bytes flags vertices : List ℕ) (coordinates : List Floa
     unfolding wrote
     answer-is = ap (λ (r : Read). r .answer) is
 
-    rows-are : after .loans .rows ≡ rowsOf bytes n ++ drop (4 * n) rows
+    pub rows-are : after .loans .rows ≡ rowsOf bytes n ++ drop (4 * n) rows
     unfolding wrote
     rows-are = ap (λ (r : Read). r .loans .rows) is
 
-    flags-are : after .loans .flags ≡ flagsOf bytes n ++ drop n flags
+    pub flags-are : after .loans .flags ≡ flagsOf bytes n ++ drop n flags
     unfolding wrote
     flags-are = ap (λ (r : Read). r .loans .flags) is
 
-    vertices-are : after .loans .vertices ≡ slotsOf bytes n v .marks ++ drop n vertices
+    pub vertices-are : after .loans .vertices ≡ slotsOf bytes n v .marks ++ drop n vertices
     unfolding wrote
     vertices-are = ap (λ (r : Read). r .loans .vertices) is
 
-    coordinates-are : after .loans .coordinates ≡ slotsOf bytes n v .coordinates ++ drop (3 * n) coordinates
+    pub coordinates-are : after .loans .coordinates ≡ slotsOf bytes n v .coordinates ++ drop (3 * n) coordinates
     unfolding wrote
     coordinates-are = ap (λ (r : Read). r .loans .coordinates) is
 

@@ -40,7 +40,41 @@ pub enum Line {
     /// beyond it.
     TestBeside(usize),
     Beyond(usize),
+    /// A stored image: a plain copy of its bytes, then the reader and the writer.
+    CopyImage(Points),
+    ReadImage(Points),
+    WriteImage(Points),
 }
+
+/// Which slots of a stored grid hold a point.
+#[derive(Debug, Clone, Copy, PartialEq, Eq)]
+pub enum Points {
+    /// Those that name a vertex, as in the images of `examples`.
+    Vertices,
+    /// Those of all real darts: the most records that an image can have.
+    Slots,
+}
+
+impl Points {
+    pub fn name(self) -> &'static str {
+        match self {
+            Self::Vertices => "at vertices",
+            Self::Slots => "in every slot",
+        }
+    }
+}
+
+pub const POINTS: [Points; 2] = [Points::Vertices, Points::Slots];
+
+/// The lines of stored images, on grids alone.
+pub const IMAGES: [Line; 6] = [
+    Line::CopyImage(Points::Vertices),
+    Line::ReadImage(Points::Vertices),
+    Line::WriteImage(Points::Vertices),
+    Line::CopyImage(Points::Slots),
+    Line::ReadImage(Points::Slots),
+    Line::WriteImage(Points::Slots),
+];
 
 pub const CELLS: [Cell; 4] = [Cell::Vertex, Cell::Edge, Cell::Face, Cell::Volume];
 
@@ -90,6 +124,9 @@ impl Line {
             Self::TwoUnsew => "2-unsew".into(),
             Self::TestBeside(call) => format!("map test beside {}", CALLS[call].name()),
             Self::Beyond(call) => format!("{} beyond the map test", CALLS[call].name()),
+            Self::CopyImage(points) => format!("image copied, {}", points.name()),
+            Self::ReadImage(points) => format!("image read, {}", points.name()),
+            Self::WriteImage(points) => format!("image written, {}", points.name()),
         }
     }
 }

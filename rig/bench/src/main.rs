@@ -6,6 +6,7 @@
 mod cgal;
 mod clock;
 mod grid;
+mod images;
 mod lines;
 mod ours;
 mod plot;
@@ -95,6 +96,7 @@ fn measure(times: &mut Times, input: Input, program: Option<&Path>) {
         text::whole_map(times, input, &oracle, &CELLS, &lists, LISTS);
         let ids = ours::calls(times, input, &mut grid, OURS);
         text::calls(times, input, &mut oracle, &grid, &ids, PEERS);
+        images::measure(times, input, &grid, &lists[Cell::Vertex as usize], OURS);
         Some(ids)
     } else {
         // its face and volume lists would walk the whole ring from each dart

@@ -5,7 +5,8 @@ use std::fmt::Write;
 use inkcapper::Cell;
 
 use crate::clock::{Spread, human};
-use crate::lines::{CALLS, CELLS, Input, Line, PASSES, Times, Who, cell_name};
+use crate::images;
+use crate::lines::{CALLS, CELLS, IMAGES, Input, Line, PASSES, Times, Who, cell_name};
 
 /// What the report says of where it was made.
 pub struct Machine {
@@ -23,7 +24,7 @@ pub struct Inputs {
     pub ring: Input,
 }
 
-fn thousands(n: usize) -> String {
+pub fn thousands(n: usize) -> String {
     let digits = n.to_string();
     let mut text = String::new();
     for (at, digit) in digits.chars().enumerate() {
@@ -35,16 +36,16 @@ fn thousands(n: usize) -> String {
     text
 }
 
-fn cell(spread: Option<Spread>) -> String {
+pub fn cell(spread: Option<Spread>) -> String {
     spread.map_or("–".into(), |s| format!("{} ({}..{})", human(s.median), human(s.least), human(s.most)))
 }
 
 /// How many times ours goes into a peer's.
-fn ratio(peer: Option<Spread>, ours: Option<Spread>) -> Option<f64> {
+pub fn ratio(peer: Option<Spread>, ours: Option<Spread>) -> Option<f64> {
     Some(peer?.median / ours?.median)
 }
 
-fn times_text(ratio: Option<f64>) -> String {
+pub fn times_text(ratio: Option<f64>) -> String {
     ratio.map_or("–".into(), |r| if r < 9.95 { format!("{r:.2}") } else { format!("{r:.0}") })
 }
 
@@ -335,6 +336,9 @@ pub fn report(times: &Times, inputs: &Inputs, machine: &Machine) -> String {
     r.say(format!("\n## One closed face of {} darts\n", thousands(inputs.ring.darts())));
     r.say("One face, one volume, every dart a vertex and an edge of its own: the longest walks there are. The published Rust walks the whole face or volume again for each of its darts, some 10¹² steps here; those two lines are not measured.\n");
     r.ring_table();
+    r.say("\n## Stored images\n");
+    r.say("The same grids as images of form 1, with a point at the dart that names each vertex, and with one in every slot. Reader and writer each contain one map test, and refuse before they write anything; a plain copy of as many bytes stands beside them. Neither peer has such images.\n");
+    r.say(images::table(times, &inputs.grids).trim_end());
     r.goals();
     r.text
 }
@@ -349,7 +353,7 @@ pub fn summary(times: &Times, inputs: &Inputs) -> String {
             "{:28}{:>10}{:>22}{:>12}{:>12}{:>9}{:>9}",
             "", "ours", "least..most", "Rust", "CGAL", "Rust/", "CGAL/"
         );
-        for line in PASSES.into_iter().chain(CELLS.map(Line::List)).chain(CALLS) {
+        for line in PASSES.into_iter().chain(CELLS.map(Line::List)).chain(CALLS).chain(IMAGES) {
             let [ours, rust, cgal] = [Who::Ours, Who::Text, Who::Cgal].map(|who| times.against(who, input, line));
             let Some(s) = ours else { continue };
             let short = |s: Option<Spread>| s.map_or("–".into(), |s| human(s.median));

@@ -73,5 +73,28 @@ int main(void) {
     double c[3];
     uint32_t r[4];
     expect("image", inkcapper_read_image(bytes, 4, f, 1, m, 1, c, 3, r, 4, v), v, 12, 0, 0, 0);
+
+    /* the triangle written, with a point at dart 2, and read back */
+    const uint8_t of_null[4] = {1, 0, 0, 0}, none[4] = {0, 0, 0, 0}, point[4] = {0, 0, 9, 0};
+    const double at2[12] = {0, 0, 0, 0, 0, 0, 1, -0.0, 2.5, 0, 0, 0};
+    uint8_t image[130], used[4];
+    double places[12];
+    uint32_t again[16];
+    memset(image, 7, sizeof image);
+    expect("room", inkcapper_write_image(triangle, 16, flags, 4, none, 4, at2, 12, image, 95, v), v, 14, 96, 0, 0);
+    expect("room", inkcapper_write_image(triangle, 16, flags, 4, point, 4, at2, 12, image, 123, v), v, 14, 124, 0, 0);
+    expect("short", inkcapper_write_image(triangle, 16, flags, 4, point, 4, at2, 11, image, 130, v), v, 2, 6, 0, 0);
+    expect("flag", inkcapper_write_image(triangle, 16, of_null, 4, point, 4, at2, 12, image, 130, v), v, 12, 7, 0, 0);
+    if (image[0] != 7) {
+        puts("write: a refusal wrote");
+        wrong = 1;
+    }
+    expect("write", inkcapper_write_image(triangle, 16, flags, 4, point, 4, at2, 12, image, 130, v), v, 0, 0, 124, 0);
+    expect("read", inkcapper_read_image(image, 124, used, 4, marks4, 4, places, 12, again, 16, v), v, 0, 0, 4, 0);
+    if (image[124] != 7 || memcmp(again, triangle, sizeof again) || memcmp(used, flags, sizeof used) || marks4[2] != 1 ||
+        memcmp(places, at2, sizeof places)) {
+        puts("write: not what was read");
+        wrong = 1;
+    }
     return wrong;
 }

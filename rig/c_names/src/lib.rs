@@ -219,3 +219,23 @@ pub unsafe extern "C" fn inkcapper_read_image(
     let (coordinates, rows) = unsafe { (lent(coordinates, coordinates_len), lent(rows, rows_len)) };
     tell(model::read_image(bytes, flags, vertex_marks, coordinates, rows), values)
 }
+
+#[unsafe(no_mangle)]
+pub unsafe extern "C" fn inkcapper_write_image(
+    rows: *const u32,
+    rows_len: usize,
+    flags: *const u8,
+    flags_len: usize,
+    vertex_marks: *const u8,
+    vertex_marks_len: usize,
+    coordinates: *const f64,
+    coordinates_len: usize,
+    bytes: *mut u8,
+    bytes_len: usize,
+    values: *mut [u64; 3],
+) -> u32 {
+    let (rows, flags) = unsafe { (read(rows, rows_len), read(flags, flags_len)) };
+    let (vertex_marks, coordinates) =
+        unsafe { (read(vertex_marks, vertex_marks_len), read(coordinates, coordinates_len)) };
+    tell(model::write_image(rows, flags, vertex_marks, coordinates, unsafe { lent(bytes, bytes_len) }), values)
+}

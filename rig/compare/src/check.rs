@@ -32,8 +32,8 @@ impl Finding {
 #[derive(Default, Clone)]
 pub struct Count {
     pub calls: u64,
-    /// By the answer's number, 0 to 12.
-    pub answers: [u64; 13],
+    /// By the answer's number, 0 to 14.
+    pub answers: [u64; 15],
     /// Comparisons by kernel, in the kernels' order.
     pub compared: Vec<u64>,
     pub differences: u64,

@@ -90,10 +90,11 @@ pub enum Call {
         cell: Cell,
     },
     ReadImage,
+    WriteImage,
 }
 
 /// The calls by name, in the order of the scope.
-pub const NAMES: [&str; 34] = [
+pub const NAMES: [&str; 35] = [
     "beta",
     "is_i_free",
     "is_free",
@@ -128,6 +129,7 @@ pub const NAMES: [&str; 34] = [
     "list_faces",
     "list_volumes",
     "read_image",
+    "write_image",
 ];
 
 impl Call {
@@ -169,6 +171,7 @@ impl Call {
             },
             Call::List { cell } => 29 + *cell as usize,
             Call::ReadImage => 33,
+            Call::WriteImage => 34,
         }
     }
 
@@ -194,7 +197,7 @@ impl Call {
                 betas.iter().map(|&i| u32::from(i)).chain([d]).collect()
             }
             Call::Orbit { d, .. } => vec![d],
-            Call::CheckMap | Call::List { .. } | Call::ReadImage => Vec::new(),
+            Call::CheckMap | Call::List { .. } | Call::ReadImage | Call::WriteImage => Vec::new(),
         }
     }
 

@@ -7,10 +7,13 @@
 //! - `walks ROUNDS STEPS SEED`: long walks of calls over random maps and grids of cubes
 //! - `floats ROUNDS SEED`: 2-sews over NaN, infinities, zeros, ties
 //! - `refusals ROUNDS SEED`: wrong sizes, loans, rows, darts, betas, plan room
-//! - `largest`: the largest map, one dart more, lengths that are no rows, long faces, whole grids
+//! - `largest`: the largest map, one dart more, lengths that are no rows, long faces, whole grids, the largest
+//!   images
 //! - `images ROUNDS SEED`: stored images, right and wrong
 //! - `bytes ROUNDS SEED`: plain noise of many lengths, and noise in which more and more of an image is put
 //!   right, given to the reader; with a line for each kind, of what came of it
+//! - `writes K ROUNDS SEED`: images written: of all maps of up to K real darts with all flags and slots, then
+//!   of random ones, right and wrong, into bytes of every length around theirs; and there and back
 //! - `answers K STRIDE POINTS`: prints the published Rust's own answers over all maps of K real darts,
 //!   every STRIDE-th call, one on a line (`runs::answers` says how); with POINTS 1 or 2 of 2-sews with
 //!   vertices
@@ -54,7 +57,8 @@ fn plan(arguments: &[String]) -> Vec<(String, Vec<u64>)> {
         return vec![(run.clone(), arguments[1..].iter().map(|word| number(word)).collect())];
     }
     let mut plan: Vec<(String, Vec<u64>)> = (0..5).map(|k| ("small".to_string(), vec![k])).collect();
-    plan.extend(["walks", "floats", "refusals", "largest", "images", "bytes"].map(|run| (run.to_string(), Vec::new())));
+    let others = ["walks", "floats", "refusals", "largest", "images", "bytes", "writes"];
+    plan.extend(others.map(|run| (run.to_string(), Vec::new())));
     plan
 }
 
@@ -77,6 +81,7 @@ fn perform(run: &str, numbers: &[u64]) -> (Comparison, Vec<String>) {
         "largest" => runs::largest(&mut comparison),
         "images" => runs::images(&mut comparison, count(0, 500_000), number(1, 1)),
         "bytes" => lines = runs::bytes(&mut comparison, count(0, 500_000), number(1, 1)),
+        "writes" => runs::writes(&mut comparison, count(0, 3), count(1, 100_000), number(2, 1)),
         other => usage(other),
     }
     (comparison, lines)
@@ -90,7 +95,7 @@ fn number(word: &str) -> u64 {
 /// Says which runs there are, and ends with 2.
 fn usage<T>(word: &str) -> T {
     eprintln!(
-        "compare: {word}? runs are small, walks, floats, refusals, largest, images, bytes, answers, wrong, cases"
+        "compare: {word}? runs are small, walks, floats, refusals, largest, images, bytes, writes, answers, wrong, cases"
     );
     std::process::exit(2)
 }

@@ -3,6 +3,9 @@
 
 use compare::{Answer, Call, Cell, Comparison, Kernel, Loans, Model, Orbit, runs};
 
+#[path = "notices/writer.rs"]
+mod writer;
+
 /// The model, with a fault put in behind it: `spoil` gets the call, the loans before, and what the model
 /// made of both.
 struct Spoilt<F: Fn(&Call, &Loans, &mut Loans, Answer) -> Answer>(F);
@@ -35,6 +38,7 @@ fn run(kernel: impl Kernel + 'static) -> Comparison {
     runs::refusals(&mut comparison, 20_000, 5);
     runs::images(&mut comparison, 5_000, 5);
     runs::bytes(&mut comparison, 5_000, 5);
+    runs::writes(&mut comparison, 2, 2_000, 5);
     comparison
 }
 

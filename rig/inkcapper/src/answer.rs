@@ -10,10 +10,10 @@ pub enum Answer {
     Done {
         /// The dart, or 1 for yes and 0 for no.
         first: u32,
-        /// Darts for orbits, lists and the reader; entries for plans.
+        /// Darts for orbits, lists and the reader; entries for plans; bytes for the writer.
         count: u64,
     },
-    /// Refused; rows, vertices, plan and output are as they were (scope: what is left).
+    /// Refused; rows, vertices, plan, output and bytes are as they were (scope: what is left).
     Refused(Refusal),
 }
 
@@ -46,6 +46,8 @@ pub enum Refusal {
     PlanRoom { entries: u64 },
     /// 12: this header word (0 to 6), or the flags (7), or the vertices (8) of the image are wrong.
     BadImage { part: u32 },
+    /// 14: the image needs this many bytes, and fewer are lent.
+    ImageRoom { bytes: u64 },
     /// A number, or values, that no call of the proved library gives.
     Unknown { number: u32, values: [u64; 3] },
 }
@@ -60,6 +62,7 @@ impl Answer {
     /// let refused = Answer::from_parts(11, [4, 0, 0]);
     /// assert_eq!(refused, Answer::Refused(Refusal::PlanRoom { entries: 4 }));
     /// assert_eq!(refused.to_string(), "refused 11: the plan needs room for 4 entries");
+    /// assert_eq!(Answer::from_parts(14, [96, 0, 0]).to_string(), "refused 14: the image needs 96 bytes");
     /// assert_eq!(Answer::from_parts(11, [4, 0, 1]).parts(), (11, [4, 0, 1]));
     /// ```
     pub fn from_parts(number: u32, values: [u64; 3]) -> Self {
@@ -78,6 +81,7 @@ impl Answer {
             (10, [Some(i), Some(ld), Some(rd)]) => Refusal::BadGeometry { i, ld, rd },
             (11, [_, Some(0), Some(0)]) => Refusal::PlanRoom { entries: a },
             (12, [Some(part), Some(0), Some(0)]) => Refusal::BadImage { part },
+            (14, [_, Some(0), Some(0)]) => Refusal::ImageRoom { bytes: a },
             _ => Refusal::Unknown { number, values: [a, b, c] },
         };
         Self::Refused(refusal)
@@ -121,6 +125,7 @@ impl Refusal {
             Self::BadGeometry { i, ld, rd } => of(10, [i, ld, rd]),
             Self::PlanRoom { entries } => (11, [entries, 0, 0]),
             Self::BadImage { part } => of(12, [part, 0, 0]),
+            Self::ImageRoom { bytes } => (14, [bytes, 0, 0]),
             Self::Unknown { number, values } => (number, values),
         }
     }
@@ -169,6 +174,7 @@ impl fmt::Display for Refusal {
             Self::BadImage { part: 7 } => f.write_str("the image's flags are wrong"),
             Self::BadImage { part: 8 } => f.write_str("the image's vertices are wrong"),
             Self::BadImage { part } => write!(f, "the image's header word {part} is wrong"),
+            Self::ImageRoom { bytes } => write!(f, "the image needs {bytes} bytes"),
             Self::Unknown { values: [a, b, c], .. } => write!(f, "{a} {b} {c}"),
         }
     }

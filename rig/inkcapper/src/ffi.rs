@@ -1,8 +1,9 @@
 //! The functions with C linkage, as `include/inkcapper.h` declares them.
 //!
 //! A slice is a pointer and a length in elements. Parameters stand in one order: rows, the loans by
-//! their numbers (marks, queue, output, flags, vertex marks, coordinates), plan, numbers, and
-//! last the place for the three values. Each returns the answer's number.
+//! their numbers (marks, queue, output, flags, vertex marks, coordinates), plan or bytes, numbers, and
+//! last the place for the three values; the reader has its bytes first and its rows last. Each returns
+//! the answer's number.
 
 /// Where the three values go.
 pub type Values = *mut [u64; 3];
@@ -112,6 +113,19 @@ unsafe extern "C" {
         coordinates_len: usize,
         rows: *mut u32,
         rows_len: usize,
+        values: Values,
+    ) -> u32;
+    pub fn inkcapper_write_image(
+        rows: *const u32,
+        rows_len: usize,
+        flags: *const u8,
+        flags_len: usize,
+        vertex_marks: *const u8,
+        vertex_marks_len: usize,
+        coordinates: *const f64,
+        coordinates_len: usize,
+        bytes: *mut u8,
+        bytes_len: usize,
         values: Values,
     ) -> u32;
 }

@@ -4,6 +4,7 @@
 //! - [`map`] has the calls on rows alone: a read gives a dart or a yes or no.
 //! - [`slices`] has one safe function for each call, on the caller's own slices.
 //! - [`Loans`] holds scratch, output and plan and grows them, for callers that hold rows alone.
+//! - [`read_image`] and [`write_image`] are for stored maps, in buffers of their size.
 //! - [`Answer`] and [`Refusal`] are what calls answer, as types; each says its number.
 //!
 //! The exact rules are docs/SCOPE.md, whose paragraphs are cited by name (scope: 3-link).
@@ -15,9 +16,11 @@
 
 mod answer;
 pub mod ffi;
+mod image;
 mod loans;
 pub mod map;
 pub mod slices;
 
 pub use answer::{Answer, Refusal};
-pub use loans::{Cell, Entry, Image, Kind, Loans, MOST_DARTS, Orbit, Sewn, Vertices, read_image};
+pub use image::{Image, read_image, write_image, write_map};
+pub use loans::{Cell, Entry, Kind, Loans, MOST_DARTS, Orbit, Sewn, Vertices};

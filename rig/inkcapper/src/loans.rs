@@ -91,26 +91,13 @@ pub struct Sewn<'a> {
     pub plan: &'a [Entry],
 }
 
-/// Vertex slots, for [`Loans::two_sew`].
+/// Vertex slots, for [`Loans::two_sew`] and [`write_map`](crate::write_map).
 #[derive(Debug, Clone, Copy)]
 pub struct Vertices<'a> {
     /// Non-zero where the slot holds a point.
     pub marks: &'a [u8],
     /// Three coordinates a slot.
     pub coordinates: &'a [f64],
-}
-
-/// What the reader took out of an image.
-#[derive(Debug, Clone, PartialEq)]
-pub struct Image {
-    /// The four images of each dart, dart after dart (scope: rows).
-    pub rows: Vec<u32>,
-    /// 1 where the dart is unused.
-    pub flags: Vec<u8>,
-    /// 1 where the slot holds a point.
-    pub vertex_marks: Vec<u8>,
-    /// Three coordinates a slot.
-    pub coordinates: Vec<f64>,
 }
 
 /// Scratch, output and plan, grown as the rows ask for it and kept from call to call.
@@ -143,7 +130,7 @@ pub struct Loans {
 
 /// The first `count` of what was lent. A count that is more would be a fault of the library; it is named as
 /// such.
-fn written(lent: &[u32], first: u32, count: u64, each: usize) -> Result<&[u32], Refusal> {
+pub(crate) fn written<T>(lent: &[T], first: u32, count: u64, each: usize) -> Result<&[T], Refusal> {
     usize::try_from(count)
         .ok()
         .and_then(|count| count.checked_mul(each))
@@ -295,32 +282,4 @@ impl Loans {
     pub fn three_unsew(&mut self, rows: &mut [u32], ld: u32) -> Result<Sewn<'_>, Refusal> {
         self.with_plan(rows, |rows, marks, queue, plan| slices::three_unsew(rows, marks, queue, plan, ld))
     }
-}
-
-/// Reads a stored image of form 1 into loans of its size (scope: reader).
-///
-/// ```
-/// # #[cfg(not(feature = "linked"))] extern crate c_names;
-/// use inkcapper::{Refusal, read_image};
-/// let header = [1u32, 45, 1, 28, 44, 0, 45]; // the null dart alone
-/// let mut bytes: Vec<u8> = header.iter().flat_map(|word| word.to_le_bytes()).collect();
-/// bytes.extend([0; 17]);
-/// assert_eq!(read_image(&bytes)?.rows, [0; 4]);
-/// assert_eq!(read_image(&bytes[1..]), Err(Refusal::BadImage { part: 0 }));
-/// # Ok::<(), Refusal>(())
-/// ```
-///
-/// # Errors
-///
-/// Refusals 12 and 3.
-pub fn read_image(bytes: &[u8]) -> Result<Image, Refusal> {
-    // Word 2 says how many darts; an image of n darts has at least 17n bytes, so that a word that lies
-    // cannot make us lend more than the image's own size asks for.
-    let word = bytes.get(8..12).and_then(|w| <[u8; 4]>::try_from(w).ok()).map_or(0, u32::from_le_bytes);
-    let n = (word as usize).min(bytes.len() / 17);
-    let mut image =
-        Image { rows: vec![0; 4 * n], flags: vec![0; n], vertex_marks: vec![0; n], coordinates: vec![0.0; 3 * n] };
-    slices::read_image(bytes, &mut image.flags, &mut image.vertex_marks, &mut image.coordinates, &mut image.rows)
-        .done()?;
-    Ok(image)
 }

@@ -1,6 +1,6 @@
 //! Nothing panics, whatever the arguments, and an answer always has a text.
 
-use inkcapper::{Answer, Cell, Loans, Orbit, Vertices, read_image};
+use inkcapper::{Answer, Cell, Loans, Orbit, Vertices, read_image, write_map};
 
 #[cfg(not(feature = "linked"))]
 extern crate c_names;
@@ -34,16 +34,18 @@ fn nothing_panics() {
         let (d, e) = (numbers.dart(), numbers.dart());
         let bytes: Vec<u8> = numbers.list(30).iter().map(|&w| w as u8).collect();
         let points: Vec<f64> = numbers.list(20).iter().map(|&w| f64::from(w) / 0.0).collect();
-        let refusal = match numbers.below(10) {
+        let vertices = Vertices { marks: &bytes, coordinates: &points };
+        let refusal = match numbers.below(11) {
             0 => loans.identifier(Cell::Vertex, &rows, d).err(),
             1 => loans.identifier(Cell::Face, &rows, d).err(),
             2 => loans.orbit(Orbit::Custom(&bytes), &rows, d).err(),
             3 => loans.list(Cell::Volume, &rows, &bytes).err(),
             4 => loans.one_sew(&mut rows, d, e).err(),
             5 => loans.one_unsew(&mut rows, d).err(),
-            6 => loans.two_sew(&mut rows, Vertices { marks: &bytes, coordinates: &points }, d, e).err(),
+            6 => loans.two_sew(&mut rows, vertices, d, e).err(),
             7 => loans.two_unsew(&mut rows, d).err(),
             8 => loans.three_unsew(&mut rows, d).err(),
+            9 => write_map(&rows, &bytes, vertices).err(),
             _ => read_image(&bytes).err(),
         };
         match refusal {

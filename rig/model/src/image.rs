@@ -3,7 +3,7 @@
 use std::fmt::Write;
 
 use crate::cells::{Cell, list_of};
-use crate::{Answer, MOST_DARTS, Step, answer, done, loans, map, refused};
+use crate::{Answer, MOST_DARTS, Step, answer, done, loans, map, refused, size};
 
 /// The most bytes of an image that the report program holds.
 pub const REPORT_BYTES: usize = 46_080;
@@ -102,6 +102,53 @@ pub fn read_image(
             coordinates[3 * dart..3 * dart + 3].copy_from_slice(&point);
         }
         Ok(done(0, n))
+    })())
+}
+
+/// The image of a map, its flags and its points.
+fn stored(rows: &[u32], flags: &[u8], points: &[(usize, &[f64])]) -> Vec<u8> {
+    let (n, v) = (rows.len() / 4, points.len());
+    let header = [1, 28 + 17 * n + 28 * v, n, 28, 28 + 16 * n, v, 28 + 17 * n];
+    let mut bytes: Vec<u8> = header.iter().flat_map(|&word| (word as u32).to_le_bytes()).collect();
+    bytes.extend(rows.iter().flat_map(|image| image.to_le_bytes()));
+    bytes.extend(flags.iter().map(|&flag| u8::from(flag != 0)));
+    for (dart, point) in points {
+        bytes.extend((*dart as u32).to_le_bytes());
+        bytes.extend(point.iter().flat_map(|x| x.to_bits().to_le_bytes()));
+    }
+    bytes
+}
+
+/// Writes an image of form 1 from the start of `bytes` and no further.
+///
+/// ```
+/// let (rows, flags, marks, coordinates) = ([0; 8], [0, 7], [1, 1], [0.5; 6]); // dart 1 unused, at a point
+/// let write = |bytes: &mut [u8]| model::write_image(&rows, &flags, &marks, &coordinates, bytes);
+/// assert_eq!(write(&mut [0; 89]), (14, [90, 0, 0]));
+/// let mut bytes = [9; 91];
+/// assert_eq!(write(&mut bytes), (0, [0, 90, 0]));
+/// assert_eq!(bytes[60..66], [0, 1, 1, 0, 0, 0]); // the flags, and the dart of the only record
+/// assert_eq!(bytes[90], 9);
+/// ```
+pub fn write_image(rows: &[u32], flags: &[u8], vertex_marks: &[u8], coordinates: &[f64], bytes: &mut [u8]) -> Answer {
+    answer((|| {
+        let n = size(rows)?;
+        loans(&[(4, flags.len(), n), (5, vertex_marks.len(), n), (6, coordinates.len(), 3 * n)])?;
+        map(rows)?;
+        if flags[0] != 0 {
+            return refused(12, &[7]);
+        }
+        let defined = (1..n).filter(|&slot| vertex_marks[slot] != 0);
+        let points: Vec<(usize, &[f64])> = defined.map(|slot| (slot, &coordinates[3 * slot..3 * slot + 3])).collect();
+        if points.iter().any(|(_, point)| !point.iter().all(|x| x.is_finite())) {
+            return refused(12, &[8]);
+        }
+        let image = stored(rows, &flags[..n], &points);
+        if bytes.len() < image.len() {
+            return refused(14, &[image.len() as u64]);
+        }
+        bytes[..image.len()].copy_from_slice(&image);
+        Ok(done(0, image.len()))
     })())
 }
 

@@ -84,18 +84,17 @@ fn on_cells(call: &Call, lent: &Fence, loans: &mut Loans) -> Option<Told> {
     Some(answer)
 }
 
-/// The reader.
+/// The reader and the writer.
 fn on_bytes(call: &Call, lent: &Fence, loans: &mut Loans) -> Option<Told> {
     let Loans { rows, flags, vertex_marks, coordinates, bytes, .. } = loans;
-    (*call == Call::ReadImage).then(|| {
-        slices::read_image(
-            &bytes[..lent.bytes],
-            &mut flags[..lent.flags],
-            &mut vertex_marks[..lent.vertex_marks],
-            &mut coordinates[..lent.coordinates],
-            &mut rows[..lent.rows],
-        )
-    })
+    let (rows, bytes) = (&mut rows[..lent.rows], &mut bytes[..lent.bytes]);
+    let (flags, vertex_marks) = (&mut flags[..lent.flags], &mut vertex_marks[..lent.vertex_marks]);
+    let coordinates = &mut coordinates[..lent.coordinates];
+    match call {
+        Call::ReadImage => Some(slices::read_image(bytes, flags, vertex_marks, coordinates, rows)),
+        Call::WriteImage => Some(slices::write_image(rows, flags, vertex_marks, coordinates, bytes)),
+        _ => None,
+    }
 }
 
 impl Kernel for Library {

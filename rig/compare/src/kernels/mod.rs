@@ -1,7 +1,7 @@
 //! The kernels: the model, the published Rust, and the library behind the C names.
 //!
-//! Each answers the calls in groups: those on the rows alone, those with a plan, those on cells and the reader;
-//! a group gives nothing for a call of another.
+//! Each answers the calls in groups: those on the rows alone, those with a plan, those on cells and those on
+//! images; a group gives nothing for a call of another.
 
 mod fence;
 mod library;

@@ -53,17 +53,26 @@ fn of_model(orbit: &Orbit) -> model::Orbit<'_> {
     }
 }
 
-/// Identifiers, orbits, lists, and the reader.
+/// Identifiers, orbits and lists.
 fn on_cells(call: &Call, loans: &mut Loans) -> Option<Answer> {
-    let Loans { rows, marks, queue, output, flags, vertex_marks, coordinates, bytes, .. } = loans;
+    let Loans { rows, marks, queue, output, flags, .. } = loans;
     let answer = match *call {
         Call::Identifier { cell, d } => model::identifier(cell, rows, marks, queue, d),
         Call::Orbit { ref orbit, d } => model::orbit(of_model(orbit), rows, marks, output, d),
         Call::List { cell } => model::list(cell, rows, marks, queue, output, flags),
-        Call::ReadImage => model::read_image(bytes, flags, vertex_marks, coordinates, rows),
         _ => return None,
     };
     Some(answer)
+}
+
+/// The reader and the writer.
+fn on_bytes(call: &Call, loans: &mut Loans) -> Option<Answer> {
+    let Loans { rows, flags, vertex_marks, coordinates, bytes, .. } = loans;
+    match call {
+        Call::ReadImage => Some(model::read_image(bytes, flags, vertex_marks, coordinates, rows)),
+        Call::WriteImage => Some(model::write_image(rows, flags, vertex_marks, coordinates, bytes)),
+        _ => None,
+    }
 }
 
 impl Kernel for Model {
@@ -83,6 +92,7 @@ impl Kernel for Model {
         on_rows(call, &mut loans.rows)
             .or_else(|| with_plan(call, loans))
             .or_else(|| on_cells(call, loans))
+            .or_else(|| on_bytes(call, loans))
             .expect("a call of one of the groups")
     }
 }

@@ -174,13 +174,13 @@ impl Kernel for Published {
         "published Rust"
     }
 
-    /// It has one wherever refusals 1 to 5 and 12, which it does not have, do not come first; the map test and
-    /// the reader as calls have no counterpart in it.
+    /// It has one wherever refusals 1 to 5 and 12, which it does not have, do not come first; the map test, the
+    /// reader and the writer as calls have no counterpart in it.
     fn has_say(&self, call: &Call, before: &Loans) -> bool {
         let n = before.rows.len() / 4;
         let sized = before.rows.len() == 4 * n && (1..=MOST_DARTS).contains(&n);
         let least = match call {
-            Call::CheckMap | Call::ReadImage => return false,
+            Call::CheckMap | Call::ReadImage | Call::WriteImage => return false,
             Call::Beta { .. } | Call::IsIFree { .. } | Call::IsFree { .. } => 0,
             Call::Identifier { .. } | Call::Orbit { .. } | Call::List { .. } => 0,
             _ => 1,
@@ -202,6 +202,6 @@ impl Kernel for Published {
         self.on_rows(call, &mut loans.rows)
             .or_else(|| self.with_plan(call, loans))
             .or_else(|| self.on_cells(call, loans))
-            .expect("the Rust has neither map test nor reader")
+            .expect("the Rust has no map test, no reader and no writer")
     }
 }

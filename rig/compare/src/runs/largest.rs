@@ -1,12 +1,13 @@
 //! The largest maps.
 
 use super::calls::CELLS;
+use super::images::reader_loans;
 use crate::check::Comparison;
 use crate::kernel::{Call, Cell, Loans, Orbit};
 use crate::maps;
 use crate::random::Random;
 
-/// The largest map, one dart more, lengths that are no rows, long faces and whole grids.
+/// The largest map, one dart more, lengths that are no rows, long faces, whole grids and the largest images.
 pub fn largest(comparison: &mut Comparison) {
     for length in [4_194_304, 4_194_308, 4_194_305, 4_194_303] {
         comparison.maps += 1;
@@ -22,12 +23,14 @@ pub fn largest(comparison: &mut Comparison) {
             Call::TwoSew { ld: last, rd: 1 },
             Call::Identifier { cell: Cell::Face, d: last },
             Call::Orbit { orbit: Orbit::Volume, d: last },
+            Call::WriteImage,
         ] {
             comparison.check(&call, &loans);
         }
     }
     rings(comparison);
     grids(comparison);
+    stored(comparison);
 }
 
 /// Two closed faces of half a million darts each: long walks, deep searches.
@@ -96,5 +99,30 @@ fn grids(comparison: &mut Comparison) {
             }
             comparison.check(&Call::List { cell }, &loans);
         }
+    }
+}
+
+/// The largest map as an image, with no point and with one in every slot but 0, into one byte too few and just
+/// enough; then read.
+fn stored(comparison: &mut Comparison) {
+    let n = 1_048_576;
+    let mut loans = Loans::around(vec![0; 4 * n]);
+    loans.plan.truncate(16);
+    for l in 1..n {
+        let r = 1 + l % (n - 1);
+        loans.rows[4 * l + 1] = r as u32;
+        loans.rows[4 * r] = l as u32;
+    }
+    for points in [0, n - 1] {
+        comparison.maps += 1;
+        loans.vertex_marks.fill(u8::from(points > 0));
+        loans.bytes = vec![0xA5; 28 + 17 * n + 28 * points - 1];
+        comparison.check(&Call::WriteImage, &loans);
+        loans.bytes.push(0xA5);
+        let (_, after) = comparison.check(&Call::WriteImage, &loans);
+        let mut back = reader_loans(n);
+        back.plan.truncate(16);
+        back.bytes.clone_from(&after.bytes);
+        comparison.check(&Call::ReadImage, &back);
     }
 }

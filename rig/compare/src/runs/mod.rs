@@ -10,6 +10,7 @@ mod loans;
 mod refusals;
 mod small;
 mod walks;
+mod writes;
 
 pub use answers::{answers, wrong};
 pub use bytes::bytes;
@@ -19,3 +20,4 @@ pub use largest::largest;
 pub use refusals::refusals;
 pub use small::small;
 pub use walks::walks;
+pub use writes::writes;

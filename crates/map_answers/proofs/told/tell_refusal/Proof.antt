@@ -134,6 +134,12 @@ cast-numbers-19 c = search needs
 numbers-requires-12 : tie.Need-numbers-requires-12
 numbers-requires-12 c κs = search needs
 
+enum-known-w-13 : tie.Need-enum-known-w-13
+enum-known-w-13 c = search needs
+
+numbers-requires-13 : tie.Need-numbers-requires-13
+numbers-requires-13 c κs = search needs
+
 returns : tie.Need-returns
 returns c = c .numbers .ensures ∙ sym (ap refusalOf (c .before .before .w .given .1))
 
@@ -169,6 +175,9 @@ returns-11 c = c .numbers11 .ensures ∙ sym (ap refusalOf (c .before .before .w
 
 returns-12 : tie.Need-returns-12
 returns-12 c = c .numbers12 .ensures ∙ sym (ap refusalOf (c .before .before .w12 .given .1))
+
+returns-13 : tie.Need-returns-13
+returns-13 c = c .numbers13 .ensures ∙ sym (ap refusalOf (c .before .before .w13 .given .1))
 
 pub tell-refusal-spec : {M : Type 1} → statement M
 tell-refusal-spec =
@@ -217,6 +226,8 @@ tell-refusal-spec =
     enum-known-w-12
     cast-numbers-19
     numbers-requires-12
+    enum-known-w-13
+    numbers-requires-13
     returns
     returns-2
     returns-3
@@ -228,4 +239,5 @@ tell-refusal-spec =
     returns-9
     returns-10
     returns-11
-    returns-12)
+    returns-12
+    returns-13)

@@ -1,9 +1,6 @@
-#!/usr/bin/env python3
-"""Writes the example images, form 1: cube_grid.img, valve_seat.img and open_strip.img, beside itself or into the folder that is named."""
+"""Small meshes as rows, flags and vertices, and their images, form 1, made without the library."""
 
-import os
 import struct
-import sys
 
 
 def image(rows, flags=None, vertices=()):
@@ -74,38 +71,8 @@ def tetrahedron():
     return mesh([[[a, c, b], [a, b, d], [b, c, d], [c, a, d]]])
 
 
-def cube_grid(k):
-    """Rows, flags and vertices of k * k * k cubes."""
-    return mesh([cube_mesh(x, y, z) for x in range(k) for y in range(k) for z in range(k)])
-
-
-def valve_seat():
-    """Rows of a triangle 1, 2, 3 glued to a quad 4, 5, 6, 7: dart 5 of the quad stays free."""
-    rows = loops([[1, 2, 3], [4, 5, 6, 7]])
-    for left, right in ((1, 4), (2, 7), (3, 6)):
-        link(rows, 3, left, right)
-    return rows
-
-
 def open_strip():
     """Rows of two darts, one behind the other, with open ends."""
     rows = [0] * 12
     link(rows, 1, 1, 2)
     return rows
-
-
-def main():
-    folder = sys.argv[1] if len(sys.argv) > 1 else os.path.dirname(os.path.abspath(__file__))
-    seat = [(1, (0.0, 0.0, 0.0)), (2, (1.0, 0.0, 0.0)), (3, (0.0, 1.0, 0.0)), (5, (-1.0, 1.0, 0.0))]
-    strip = [(1, (0.0, 0.0, 0.0)), (2, (1.0, 0.0, 0.0))]
-    for name, data in (
-        ("cube_grid.img", image(*cube_grid(2))),
-        ("valve_seat.img", image(valve_seat(), None, seat)),
-        ("open_strip.img", image(open_strip(), None, strip)),
-    ):
-        with open(os.path.join(folder, name), "wb") as out:
-            out.write(data)
-
-
-if __name__ == "__main__":
-    main()

@@ -1,0 +1,2 @@
+-- `Image`: the bytes of an image, block by block.
+pub mod Image

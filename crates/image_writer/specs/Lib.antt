@@ -1,0 +1,2 @@
+-- `Writes`: what a writing answers and leaves.
+pub mod Writes

@@ -1,0 +1,2 @@
+// The writer of stored images.
+pub mod writer;

@@ -18,11 +18,7 @@ use lib.Ieee.Scale.{finite}
 use lib.Ieee.Compare.{differs-from-itself}
 use lib.Ieee.Bits.{ofBits-toBits, toBits-ofBits}
 use Rattle.image_words.specs.Words.{word32, word64}
-use Rattle.image_store.specs.Stores.{stored, numberAt}
-
--- each is a byte
-abbrev pub Bytes : List ℕ → Type 0
-Bytes l = (i : ℕ) → getD l i 0 < 256
+use Rattle.image_store.specs.Stores.{stored, numberAt, Bytes}
 
 pub number-alike : (k : ℕ) (l m : List ℕ) (at bt : ℕ) → ((i : ℕ) → i < k → getD l (at + i) 0 ≡ getD m (bt + i) 0) → numberAt k l at ≡ numberAt k m bt
 unfolding numberAt

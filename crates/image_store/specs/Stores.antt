@@ -4,7 +4,8 @@
 --   storedEach f xs    what f stores of each of xs, one behind another
 --   words xs           four bytes of each
 --   coordinate x       the eight bytes of a double
-use Prim.Native.Nat.{ℕ, zero, suc, _+_, _*_, _/_, _%_}
+--   Bytes l            each of l is a byte: true of every lent slice of bytes
+use Prim.Native.Nat.{ℕ, zero, suc, _+_, _*_, _/_, _%_, _<_}
 use mathlib.Core.List.{List, [], _∷_, _++_}
 use lib.ListN.{getD}
 use lib.Ieee.{Float, binary64, toBits}
@@ -29,3 +30,6 @@ words xs = storedEach (stored 4) xs
 -- the pattern of its bits, so that a negative zero keeps its sign
 abbrev pub coordinate : Float → List ℕ
 coordinate x = stored 8 (toBits binary64 x)
+
+abbrev pub Bytes : List ℕ → Type 0
+Bytes l = (i : ℕ) → getD l i 0 < 256

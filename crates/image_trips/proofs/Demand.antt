@@ -23,10 +23,11 @@ use Rattle.image_form.specs.Form.{dartsOf, rowsOf}
 use Rattle.image_form.proofs.StoredLaws.{rows-length}
 use Rattle.image_reader.specs.Reads.{Read, Loaded, readImage, Accepted}
 use Rattle.image_reader.proofs.Written.{read-image-iff, answer-is, rows-are}
+use Rattle.image_store.specs.Stores.{Bytes}
 use Rattle.image_blocks.specs.Image.{imageOf}
 use Rattle.image_writer.specs.Writes.{writeTest, written, writeImage, Writable}
 use Rattle.image_writer.proofs.WriteLaws.{writable, writes, room-short, room-enough}
-use Rattle.image_trips.specs.Trips.{Bytes, Doubles, GivenBack}
+use Rattle.image_trips.specs.Trips.{Doubles, GivenBack}
 use Rattle.image_trips.proofs.Reading.{back-answer, back}
 use Rattle.image_trips.proofs.Writing as writing
 

@@ -24,13 +24,12 @@ use Rattle.image_form.proofs.StoredLaws.{rows-darts}
 use Rattle.image_fill.specs.Content.{flagsOf, slotsOf}
 use Rattle.image_reader.specs.Reads.{Read, readImage, Accepted}
 use Rattle.image_reader.proofs.Written.{slot-marks, slot-coordinates, flags-are, vertices-are, coordinates-are, flags-say, vertex-says, no-vertex-says}
-use Rattle.image_store.specs.Stores.{stored, numberAt, coordinate}
+use Rattle.image_store.specs.Stores.{stored, numberAt, coordinate, Bytes}
 use Rattle.image_store.proofs.Trips.{stored-number, number-below, word-is, long-is, bits-finite}
 use Rattle.image_blocks.specs.Image.{bitOf, points, pointFinite, recordBytes, imageOf}
 use Rattle.image_blocks.proofs.PointLaws.{point-none, point-whole, finite-all}
 use Rattle.image_writer.specs.Writes.{Writable}
 use Rattle.image_writer.proofs.WriteLaws.{image-length}
-use Rattle.image_trips.specs.Trips.{Bytes}
 use Rattle.image_trips.proofs.Slots.{find, points-listed}
 use Rattle.image_trips.proofs.Image.{dart-byte, coordinate-byte, header-byte, row-byte, flag-byte, record-byte}
 

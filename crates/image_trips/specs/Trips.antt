@@ -1,5 +1,4 @@
 -- What is given back where an image is written and read.
---   Bytes l            each of l is a byte: true of every lent slice of bytes
 --   Doubles l          each of l is a double: true of every lent slice of doubles
 --   GivenBack          a map, its flags and its vertices in loans, as they were before they were written
 use Prim.Native.Nat.{ℕ, _+_, _*_, _<_, _≤_}
@@ -12,9 +11,6 @@ use lib.Ieee.{Float, nan, binary64, fits}
 use Rattle.map_betas.specs.Betas.{darts}
 use Rattle.image_blocks.specs.Image.{bitOf}
 use Rattle.image_reader.specs.Reads.{Loaded}
-
-abbrev pub Bytes : List ℕ → Type 0
-Bytes l = (i : ℕ) → getD l i 0 < 256
 
 abbrev pub Doubles : List Float → Type 0
 Doubles l = (i : ℕ) → T (fits binary64 (getD l i nan))

@@ -1,12 +1,12 @@
 // The exported calls by their number in the list.
-use crate::records::size;
-use crate::records::word;
 use inkcapper::ids;
 use inkcapper::links;
 use inkcapper::lists;
 use inkcapper::orbits;
 use inkcapper::reads;
 use inkcapper::sews;
+use test_records::records::size;
+use test_records::records::word;
 
 // The answer of no call.
 const NONE: u32 = 255;

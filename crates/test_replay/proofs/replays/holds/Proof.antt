@@ -2,8 +2,8 @@
 use mathlib.Core.Path.{sym}
 use lib.Seq.{length-take-le}
 use borrow.Author.Needs.{needs}
-use Rattle.test_replay.proofs.records.holds.Statement.{statement}
-use Rattle.test_replay.proofs.records.holds.Tie as tie
+use Rattle.test_replay.proofs.replays.holds.Statement.{statement}
+use Rattle.test_replay.proofs.replays.holds.Tie as tie
 
 darts-requires : tie.Need-darts-requires
 darts-requires c κs = search needs

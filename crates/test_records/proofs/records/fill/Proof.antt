@@ -3,8 +3,8 @@ use borrow.Author.Needs.{needs}
 use mathlib.Core.Path.{_≡_}
 use Prim.Native.Nat.{_≤_, _-_}
 use lib.ListN.{length, length-set}
-use Rattle.test_replay.proofs.records.fill.Statement.{statement}
-use Rattle.test_replay.proofs.records.fill.Tie as tie
+use Rattle.test_records.proofs.records.fill.Statement.{statement}
+use Rattle.test_records.proofs.records.fill.Tie as tie
 
 abbrev Inv-loop : tie.InvT-loop
 Inv-loop rows₀ bytes i₀ rows i = (i ≤ length rows) × (length rows ≡ length rows₀)

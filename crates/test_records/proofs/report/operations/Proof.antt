@@ -1,8 +1,8 @@
 -- `operations` is safe and ends. Assumes nothing.
 use borrow.Author.Needs.{needs}
 use Prim.Native.Nat.{_-_, _≤_}
-use Rattle.test_replay.proofs.report.operations.Statement.{statement}
-use Rattle.test_replay.proofs.report.operations.Tie as tie
+use Rattle.test_records.proofs.report.operations.Statement.{statement}
+use Rattle.test_records.proofs.report.operations.Tie as tie
 
 abbrev Inv-loop : tie.InvT-loop
 Inv-loop agree i₀ t3 t4 i = i ≤ 30

@@ -1,8 +1,8 @@
 -- `answers` is safe and ends. Assumes nothing.
 use borrow.Author.Needs.{needs}
 use Prim.Native.Nat.{_-_, _≤_}
-use Rattle.test_replay.proofs.report.answers.Statement.{statement}
-use Rattle.test_replay.proofs.report.answers.Tie as tie
+use Rattle.test_records.proofs.report.answers.Statement.{statement}
+use Rattle.test_records.proofs.report.answers.Tie as tie
 
 abbrev Inv-loop : tie.InvT-loop
 Inv-loop numbers i₀ i = i ≤ 16

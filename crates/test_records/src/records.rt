@@ -1,12 +1,11 @@
-// The records: a walk over them, and what each says of one call.
+// The records: what each says of one call, and what a walk over them met.
 //
 // A record is one byte for each number: operation, n, a, b, number, three values, points, room, count of betas, count of words written;
 // then the betas, 4n rows before, 4n rows after, and the words written.
-use crate::calls::call;
 ghost use Prim.Native.Nat.{_≤_};
 
 // What stands in output and plan before a call.
-const FILLER: u32 = 3235774464;
+pub const FILLER: u32 = 3235774464;
 
 // What a walk met: the records, those that differ, the first of these counted from 1, and the bytes that are no record.
 pub struct Walked {
@@ -38,7 +37,7 @@ pub fn size(bytes: &[u8], at: usize) -> usize
 }
 
 // The darts of a record, at most 8.
-fn darts(record: &[u8]) -> usize
+pub fn darts(record: &[u8]) -> usize
     ensures { λ r. ⌜ r ≤ 8 ⌝ }
 {
     let n = size(record, 1);
@@ -46,7 +45,7 @@ fn darts(record: &[u8]) -> usize
 }
 
 // The words of plan that are lent, at most 64.
-fn room(record: &[u8]) -> usize
+pub fn room(record: &[u8]) -> usize
     ensures { λ r. ⌜ r ≤ 64 ⌝ }
 {
     let n = size(record, 9);
@@ -54,14 +53,14 @@ fn room(record: &[u8]) -> usize
 }
 
 // The length of the first record by its own counts.
-fn extent(bytes: &[u8]) -> usize
+pub fn extent(bytes: &[u8]) -> usize
     ensures { λ r. ⌜ 12 ≤ r ⌝ }
 {
     12 + size(bytes, 10) + 8 * darts(bytes) + size(bytes, 11)
 }
 
 // Copies numbers of a record into rows.
-fn fill(rows: &mut [u32], bytes: &[u8]) {
+pub fn fill(rows: &mut [u32], bytes: &[u8]) {
     let mut i = 0;
     while i < rows.len() {
         rows[i] = word(bytes, i);
@@ -75,7 +74,7 @@ fn wanted(bytes: &[u8], count: usize, i: usize) -> u32 {
 }
 
 // Whether the first words of a loan are the record's, and the rest as before the call.
-fn same(list: &[u32], count: usize, bytes: &[u8]) -> bool {
+pub fn same(list: &[u32], count: usize, bytes: &[u8]) -> bool {
     let mut i = 0;
     while i < list.len() {
         if list[i] != wanted(bytes, count, i) {
@@ -87,14 +86,14 @@ fn same(list: &[u32], count: usize, bytes: &[u8]) -> bool {
 }
 
 // Whether the values are the record's.
-fn same_values(values: &[u64; 3], record: &[u8]) -> bool {
+pub fn same_values(values: &[u64; 3], record: &[u8]) -> bool {
     values[0] == word(record, 5) as u64
         && values[1] == word(record, 6) as u64
         && values[2] == word(record, 7) as u64
 }
 
 // Whether output and plan are as the record says: a list is written to output, a plan to plan.
-fn same_written(record: &[u8], output: &[u32], plan: &[u32], bytes: &[u8]) -> bool {
+pub fn same_written(record: &[u8], output: &[u32], plan: &[u32], bytes: &[u8]) -> bool {
     let count = size(record, 11);
     if 18 < size(record, 0) {
         return same(output, count, bytes) && same(plan, 0, bytes);
@@ -102,40 +101,8 @@ fn same_written(record: &[u8], output: &[u32], plan: &[u32], bytes: &[u8]) -> bo
     same(plan, count, bytes) && same(output, 0, bytes)
 }
 
-// Makes a record's call on these loans: whether the number and the values are the record's.
-fn answered(record: &[u8], rows: &mut [u32], output: &mut [u32], plan: &mut [u32]) -> bool {
-    let mut values = [0u64; 3];
-    let number = call(record, rows, output, plan, &mut values);
-    number == word(record, 4) && same_values(&values, record)
-}
-
-// Makes a record's call on these loans and compares.
-fn replayed(record: &[u8], rows: &mut [u32], output: &mut [u32], plan: &mut [u32]) -> bool {
-    let before = 12 + size(record, 10);
-    let m = 4 * darts(record);
-    let after = before + m;
-    let written = after + m;
-    if record.len() < written {
-        return false;
-    }
-    fill(rows, &record[before..]);
-    answered(record, rows, output, plan)
-        && same(rows, m, &record[after..])
-        && same_written(record, output, plan, &record[written..])
-}
-
-// Lends a record's call what it needs, and compares.
-fn holds(record: &[u8]) -> bool {
-    let mut rows = [0u32; 32];
-    let mut output = [FILLER; 16];
-    let mut plan = [FILLER; 64];
-    let m = 4 * darts(record);
-    let words = room(record);
-    replayed(record, &mut rows[..m], &mut output, &mut plan[..words])
-}
-
 // Counts a record by its operation and by its number.
-fn count(record: &[u8], agree: &mut [u64; 32], numbers: &mut [u64; 16]) {
+pub fn count(record: &[u8], agree: &mut [u64; 32], numbers: &mut [u64; 16]) {
     let operation = size(record, 0);
     if operation < 32 {
         agree[operation] = std::num::wrapping_add_u64(agree[operation], 1);
@@ -147,7 +114,7 @@ fn count(record: &[u8], agree: &mut [u64; 32], numbers: &mut [u64; 16]) {
 }
 
 // Notes one record more.
-fn noted(walked: Walked, good: bool) -> Walked {
+pub fn noted(walked: Walked, good: bool) -> Walked {
     let records = std::num::wrapping_add_u64(walked.records, 1);
     if good {
         return Walked {
@@ -169,35 +136,4 @@ fn noted(walked: Walked, good: bool) -> Walked {
         first: first,
         rest: walked.rest,
     }
-}
-
-// Replays one record and counts it where it agrees.
-fn replay(record: &[u8], agree: &mut [u64; 32], numbers: &mut [u64; 16]) -> bool {
-    let good = holds(record);
-    if good {
-        count(record, agree, numbers);
-    }
-    good
-}
-
-// Replays record after record, until no whole one is left.
-pub fn walk(bytes: &[u8], agree: &mut [u64; 32], numbers: &mut [u64; 16]) -> Walked {
-    let mut walked = Walked {
-        records: 0,
-        differences: 0,
-        first: 0,
-        rest: bytes.len(),
-    };
-    let mut at = 0;
-    while at < bytes.len() {
-        let n = extent(&bytes[at..]);
-        if bytes.len() - at < n {
-            return walked;
-        }
-        let good = replay(&bytes[at..at + n], agree, numbers);
-        walked = noted(walked, good);
-        at += n;
-        walked.rest = bytes.len() - at;
-    }
-    walked
 }

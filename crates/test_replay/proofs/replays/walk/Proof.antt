@@ -2,8 +2,8 @@
 use borrow.Author.Needs.{needs}
 use Prim.Native.Nat.{_≤_, _-_}
 use lib.ListN.{length}
-use Rattle.test_replay.proofs.records.walk.Statement.{statement}
-use Rattle.test_replay.proofs.records.walk.Tie as tie
+use Rattle.test_replay.proofs.replays.walk.Statement.{statement}
+use Rattle.test_replay.proofs.replays.walk.Tie as tie
 
 abbrev Inv-loop : tie.InvT-loop
 Inv-loop bytes agree₀ numbers₀ walked₀ at₀ agree numbers walked at = at ≤ length bytes

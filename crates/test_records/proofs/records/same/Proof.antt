@@ -2,8 +2,8 @@
 use borrow.Author.Needs.{needs}
 use Prim.Native.Nat.{_≤_, _-_}
 use lib.ListN.{length}
-use Rattle.test_replay.proofs.records.same.Statement.{statement}
-use Rattle.test_replay.proofs.records.same.Tie as tie
+use Rattle.test_records.proofs.records.same.Statement.{statement}
+use Rattle.test_records.proofs.records.same.Tie as tie
 
 abbrev Inv-loop : tie.InvT-loop
 Inv-loop list count bytes i₀ i = i ≤ length list

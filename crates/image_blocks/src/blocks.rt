@@ -46,7 +46,7 @@ pub fn put_words(bytes: &mut [u8], from: usize, rows: &[u32])
 }
 
 // 0 or 1: a flag as it is stored, a mark as it is counted.
-pub(crate) fn bit_of(x: u8) -> u8
+pub fn bit_of(x: u8) -> u8
     ensures { λ r. ⌜ (r ≡ bitOf x) × (r ≤ 1) ⌝ }
 {
     if x == 0 {

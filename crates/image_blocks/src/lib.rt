@@ -1,3 +1,2 @@
-// Lays the blocks of an image of form 1: header, rows, flags and records, each from its place on.
+// Lays the blocks of an image of form 1 that every image has: header, rows and flags. The definition of an image and its laws stand here too.
 pub mod blocks;
-pub mod points;

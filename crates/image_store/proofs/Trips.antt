@@ -3,15 +3,18 @@
 --   number-alike      reading depends on the bytes that are read alone
 --   stored-number     what is stored of a number that was read are the bytes
 --   number-below      bytes are no more than a number of their width
+--   put-there, put-elsewhere   a number put at a place and read there, and bytes elsewhere left alone
 --   word-is, long-is  words and double words as the reader reads them
 --   finite-bits, bits-finite   a finite coordinate's pattern, and a pattern read as a finite coordinate
 use mathlib.Core.Path.{_≡_, refl, sym, ap, _∙_, subst}
 use mathlib.Core.Bool.{true, false, not}
-use mathlib.Core.List.{List, _∷_}
-use Prim.Native.Nat.{ℕ, zero, suc, _+_, _*_, _/_, _%_, _^_, _<_}
+use mathlib.Core.Logic.{_≢_, _⊎_, inl, inr, ⊎-elim}
+use mathlib.Core.List.{List, [], _∷_, _++_}
+use Prim.Native.Nat.{ℕ, zero, suc, _+_, _*_, _/_, _%_, _^_, _<_, _≤_}
 use native.Mathlib.Omega.{arith}
 use native.Mathlib.Nat.{pow-suc}
-use lib.ListN.{getD}
+use lib.ListN.{length, getD, set, take, drop, length-append, List·getD-append}
+use lib.Seq.{sets, sets-eq, length-take-le, getD-append-add, getD-set-other}
 use lib.Dec.{T}
 use lib.Ieee.{Float, nan, inf, fin, binary64, ofBits, toBits, fits, isNan, ne}
 use lib.Ieee.Scale.{finite}
@@ -19,6 +22,7 @@ use lib.Ieee.Compare.{differs-from-itself}
 use lib.Ieee.Bits.{ofBits-toBits, toBits-ofBits}
 use Rattle.image_words.specs.Words.{word32, word64}
 use Rattle.image_store.specs.Stores.{stored, numberAt, Bytes}
+use Rattle.image_store.proofs.Stored.{stored-length}
 
 pub number-alike : (k : ℕ) (l m : List ℕ) (at bt : ℕ) → ((i : ℕ) → i < k → getD l (at + i) 0 ≡ getD m (bt + i) 0) → numberAt k l at ≡ numberAt k m bt
 unfolding numberAt
@@ -69,6 +73,33 @@ number-below (suc k) l at b =
     let s = b at in
     let next = number-below k l (suc at) b in
     omega arith
+
+-- ---- stores
+
+sets-there : (l xs : List ℕ) (at j : ℕ) → at + length xs ≤ length l → j < length xs → getD (sets l at xs) (at + j) 0 ≡ getD xs j 0
+sets-there l xs at j r h =
+    let front = length-take-le at l (omega arith) in
+    let rest = drop (at + length xs) l in
+    let a = length-append (take at l) xs in
+    ap (λ (m : List ℕ). getD m (at + j) 0) (sets-eq xs l at r) ∙ List·getD-append (take at l ++ xs) rest 0 (at + j) (omega arith)
+    ∙ ap (λ (k : ℕ). getD (take at l ++ xs) (k + j) 0) (sym front) ∙ getD-append-add (take at l) xs j 0
+
+-- bytes before and behind what is put
+pub put-elsewhere : (l xs : List ℕ) (at j : ℕ) → (j < at) ⊎ (at + length xs ≤ j) → getD (sets l at xs) j 0 ≡ getD l j 0
+put-elsewhere l [] at j h = refl
+put-elsewhere l (x ∷ xs) at j h =
+    let away : j ≢ at = λ e. ⊎-elim (λ (a : j < at). omega arith) (λ (b : at + suc (length xs) ≤ j). omega arith) h in
+    put-elsewhere (set l at x) xs (suc at) j (⊎-elim (λ (a : j < at). inl (omega arith)) (λ (b : at + suc (length xs) ≤ j). inr (omega arith)) h)
+    ∙ getD-set-other l at j x 0 away
+
+-- a number put at a place and read there
+pub put-there : (k : ℕ) (l : List ℕ) (at x : ℕ) → at + k ≤ length l → x < 256 ^ k → numberAt k (sets l at (stored k x)) at ≡ x
+put-there k l at x r h =
+    let s = stored-length k x in
+    number-alike k (sets l at (stored k x)) (stored k x) at 0 (λ i j.
+    let z : i ≡ 0 + i = omega arith in
+    sets-there l (stored k x) at i (omega arith) (omega arith) ∙ ap (λ (n : ℕ). getD (stored k x) n 0) z)
+    ∙ number-stored k x h
 
 pub word-is : (l : List ℕ) (at : ℕ) → word32 l at ≡ numberAt 4 l at
 unfolding word32 numberAt

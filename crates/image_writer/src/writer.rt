@@ -2,13 +2,13 @@
 use image_blocks::blocks::put_flags;
 use image_blocks::blocks::put_header;
 use image_blocks::blocks::put_words;
-use image_blocks::points::count_points;
-use image_blocks::points::points_finite;
-use image_blocks::points::put_points;
 use image_form::form::ROW_OFFSET;
 use image_form::form::flag_offset;
 use image_form::form::total_bytes;
 use image_form::form::vertex_offset;
+use image_points::points::count_points;
+use image_points::points::points_finite;
+use image_points::points::put_points;
 use map_betas::error::Answer;
 use map_betas::error::Refusal;
 use map_betas::error::is_done;

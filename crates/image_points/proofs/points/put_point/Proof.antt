@@ -1,10 +1,10 @@
 -- `points::put_point` meets its contract: a record where the slot holds a point, else nothing. Assumes nothing.
 use native.Mathlib.Omega.{arith}
 use Rattle.image_blocks.proofs.PointLaws.{point-parts}
 use Rattle.image_blocks.proofs.LaidLaws.{nothing-laid, something-laid, something-room}
 use borrow.Author.Needs.{needs}
-use Rattle.image_blocks.proofs.points.put_point.Statement.{statement}
-use Rattle.image_blocks.proofs.points.put_point.Tie as tie
+use Rattle.image_points.proofs.points.put_point.Statement.{statement}
+use Rattle.image_points.proofs.points.put_point.Tie as tie
 
 shared-slice-read-if1 : tie.Need-shared-slice-read-if1
 shared-slice-read-if1 c = search needs

@@ -5,12 +5,12 @@ use native.Mathlib.Omega.{arith}
 use lib.ListN.{length}
 use lib.Seq.{sets}
 use Rattle.image_store.specs.Stores.{storedEach}
 use Rattle.image_blocks.specs.Image.{points, recordBytes, pointBytes}
 use Rattle.image_blocks.proofs.PointLaws.{finite-at, last-slot}
 use Rattle.image_blocks.proofs.LaidLaws.{bytes-kept, points-none, points-begin, points-room, points-place, points-step}
 use borrow.Author.Needs.{needs}
-use Rattle.image_blocks.proofs.points.put_points.Statement.{statement}
-use Rattle.image_blocks.proofs.points.put_points.Tie as tie
+use Rattle.image_points.proofs.points.put_points.Statement.{statement}
+use Rattle.image_points.proofs.points.put_points.Tie as tie
 
 abbrev Inv-loop : tie.InvT-loop
 Inv-loop bytes₀ from vertices coordinates n d₀ at₀ bytes d at =

@@ -1,10 +1,10 @@
 -- `points::point_finite` meets its contract: the test of a point, coordinate by coordinate. Assumes nothing.
 use mathlib.Core.Path.{sym, _∙_}
 use borrow.Author.Tests.{not-true, not-false}
 use Rattle.image_blocks.proofs.PointLaws.{point-none, point-first, point-second, point-third}
 use borrow.Author.Needs.{needs}
-use Rattle.image_blocks.proofs.points.point_finite.Statement.{statement}
-use Rattle.image_blocks.proofs.points.point_finite.Tie as tie
+use Rattle.image_points.proofs.points.point_finite.Statement.{statement}
+use Rattle.image_points.proofs.points.point_finite.Tie as tie
 
 shared-slice-read-if1 : tie.Need-shared-slice-read-if1
 shared-slice-read-if1 c = search needs

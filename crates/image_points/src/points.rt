@@ -1,5 +1,5 @@
 // The points of the slots from 1 up: whether they are finite, how many there are, and their records.
-use crate::blocks::bit_of;
+use image_blocks::blocks::bit_of;
 use image_store::is_finite;
 use image_store::put_coordinate;
 use image_store::put_word;

@@ -3,10 +3,10 @@ use mathlib.Core.Path.{_≡_, refl, sym, _∙_}
 use Prim.Native.Nat.{_-_, _≤_}
 use native.Mathlib.Omega.{arith}
 use borrow.Author.Tests.{not-true, not-false}
 use Rattle.image_blocks.specs.Image.{finiteFrom}
 use Rattle.image_blocks.proofs.PointLaws.{finite-bad, finite-next, finite-end}
-use Rattle.image_blocks.proofs.points.points_finite.Statement.{statement}
-use Rattle.image_blocks.proofs.points.points_finite.Tie as tie
+use Rattle.image_points.proofs.points.points_finite.Statement.{statement}
+use Rattle.image_points.proofs.points.points_finite.Tie as tie
 
 abbrev Inv-loop : tie.InvT-loop
 Inv-loop vertices coordinates n d₀ d = (1 ≤ d) × (d ≤ n) × (finiteFrom vertices coordinates 1 (n - 1) ≡ finiteFrom vertices coordinates d (n - d))

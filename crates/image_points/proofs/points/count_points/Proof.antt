@@ -3,11 +3,11 @@ use mathlib.Core.Path.{_≡_, _∙_}
 use Prim.Native.Nat.{_-_, _≤_, _<_}
 use native.Mathlib.Omega.{arith}
 use lib.ListN.{length}
 use Rattle.image_blocks.specs.Image.{points}
 use Rattle.image_blocks.proofs.PointLaws.{count-none, count-more, count-over}
 use borrow.Author.Needs.{needs}
-use Rattle.image_blocks.proofs.points.count_points.Statement.{statement}
-use Rattle.image_blocks.proofs.points.count_points.Tie as tie
+use Rattle.image_points.proofs.points.count_points.Statement.{statement}
+use Rattle.image_points.proofs.points.count_points.Tie as tie
 
 abbrev Inv-loop : tie.InvT-loop
 Inv-loop vertices n d₀ v₀ d v = (d < n) × (v ≤ d) × (v ≡ length (points vertices d))

@@ -1,9 +1,9 @@
 -- `points::put_record` meets its contract: a word and three coordinates. Assumes nothing.
 use native.Mathlib.Omega.{arith}
 use Rattle.image_blocks.proofs.LaidLaws.{record-laid, first-finite}
 use borrow.Author.Needs.{needs}
-use Rattle.image_blocks.proofs.points.put_record.Statement.{statement}
-use Rattle.image_blocks.proofs.points.put_record.Tie as tie
+use Rattle.image_points.proofs.points.put_record.Statement.{statement}
+use Rattle.image_points.proofs.points.put_record.Tie as tie
 
 cast-put-word : tie.Need-cast-put-word
 cast-put-word c = search needs

@@ -12,7 +12,7 @@
  * values, 0 where absent. When done, values[0] is the dart or yes/no answered (0 where none), values[1]
  * the count written (darts for orbits, lists and the reader, entries for plans, bytes for the writer; 0
  * where none) and values[2] is 0. Refusals 1 to 5 come first, in that order, then 6 to 10, whichever is met
- * first, and 11 last; the reader and the writer say their own order.
+ * first, and 11 last; lists of commands, the reader and the writer say their own order.
  *
  * WHAT IS LEFT (scope: what is left, scratch). A refusal leaves rows, vertices, plan, output and bytes as
  * they were. A refusal from 1 to 5 leaves scratch (marks and queue) too; any other answer wipes its first n
@@ -29,14 +29,14 @@
  *     other thread touches it meanwhile.
  * A call keeps no pointer after it returns, allocates nothing and has no state of its own.
  *
- * COSTS. Every call but the reads and the reader makes one pass over the rows first. Lists, the reader and
- * the writer take time linear in the darts, but for list_faces on faces that are not regular; what grows
- * faster is said at the call.
+ * COSTS. Every call but the reads and the reader makes one pass over the rows first; a list of commands
+ * makes one for all of them. Lists, the reader and the writer take time linear in the darts, but for
+ * list_faces on faces that are not regular; what grows faster is said at the call.
  *
  * LOANS (scope: loans). Sizes are least sizes; more is allowed and left alone.
  *   1 marks          n bytes      scratch
  *   2 queue          n u32        scratch
- *   3 output         n u32        where orbits and lists are written
+ *   3 output         n u32        where orbits and lists are written; for commands five u32 for each of them
  *   4 flags          n bytes      non-zero means unused
  *   5 vertex marks   n bytes      non-zero means that the dart's slot holds a point
  *   6 coordinates    3n doubles   x, y, z of each slot
@@ -72,6 +72,7 @@ enum inkcapper_number {
     INKCAPPER_BAD_GEOMETRY = 10,       /* 2, ld, rd: the two edges do not point against each other */
     INKCAPPER_PLAN_ROOM = 11,          /* entries needed: more than the plan has room for */
     INKCAPPER_BAD_IMAGE = 12,          /* header word 0 to 6, or 7 for flags, 8 for vertices */
+    INKCAPPER_BAD_COMMAND = 13,        /* the operation: none of 1 to 11; 0 for a list of no whole commands */
     INKCAPPER_IMAGE_ROOM = 14          /* bytes needed: more than are lent */
 };
 
@@ -84,6 +85,21 @@ enum inkcapper_loan {
     INKCAPPER_VERTEX_MARKS = 5,
     INKCAPPER_COORDINATES = 6,
     INKCAPPER_ROWS = 7
+};
+
+/* The operations of commands. */
+enum inkcapper_operation {
+    INKCAPPER_ONE_LINK = 1,
+    INKCAPPER_TWO_LINK = 2,
+    INKCAPPER_THREE_LINK = 3,
+    INKCAPPER_ONE_SEW = 4,
+    INKCAPPER_TWO_SEW = 5,
+    INKCAPPER_ONE_UNLINK = 6,
+    INKCAPPER_TWO_UNLINK = 7,
+    INKCAPPER_THREE_UNLINK = 8,
+    INKCAPPER_ONE_UNSEW = 9,
+    INKCAPPER_TWO_UNSEW = 10,
+    INKCAPPER_THREE_UNSEW = 11
 };
 
 /* The codes of plan entries. */
@@ -198,6 +214,32 @@ uint32_t inkcapper_three_unsew(uint32_t *rows, size_t rows_len,
                                uint32_t *queue, size_t queue_len,
                                uint32_t *plan, size_t plan_len,
                                uint32_t ld, uint64_t values[3]);
+
+/* ---- Lists of commands (scope: commands): links, sews, unlinks and unsews in one call, under one map test.
+ *      Refusals of a whole list: 1, 2, 13, 3, in that order. Scratch: marks and queue. ---- */
+
+/* Makes commands one after another. A command is three u32: its operation, a dart, and a second dart, which
+ * for unlinks and unsews is not looked at, whatever it is. Each is the call of its name on what the ones
+ * before have left, of the rows and of the plan: its entries stand straight behind theirs. One that is
+ * refused changes nothing, and the list goes on. Output takes five u32 for each command: the number of its
+ * answer; its three values, of which one that is done has at most the first, the dart that an unlink or unsew
+ * answers; and the entries that it wrote, 0 where it is refused. A command is refused with 13 for its
+ * operation, before 4, and else as its call; 11 says the entries that it needs itself. The list is done
+ * whatever came of its commands, and values[1] counts the entries written in all.
+ * The whole list is refused with 13 (0), after 2 and before 3, where its length is no multiple of three.
+ * Every list is lent marks, queue, output, vertex marks and coordinates and wipes the scratch, one of links
+ * alone too, though a single link is lent the rows alone.
+ * Costs: one map test and one clearing of scratch for the whole list; beyond these a command costs what it
+ * touches and nothing that grows with n: a 1- or 2-link or unlink a few places, a 3-link or 3-unlink its two
+ * faces, a sew or unsew the cells that it names. */
+uint32_t inkcapper_commands(uint32_t *rows, size_t rows_len,
+                            uint8_t *marks, size_t marks_len,
+                            uint32_t *queue, size_t queue_len,
+                            uint32_t *output, size_t output_len,
+                            const uint8_t *vertex_marks, size_t vertex_marks_len,
+                            const double *coordinates, size_t coordinates_len,
+                            uint32_t *plan, size_t plan_len,
+                            const uint32_t *commands, size_t commands_len, uint64_t values[3]);
 
 /* ---- Identifiers (scope: identifier, face_id): dart 0 allowed, and answered with 0. Refusals 1 to 4.
  *      Scratch: marks and queue. ---- */

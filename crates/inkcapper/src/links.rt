@@ -40,7 +40,7 @@ pub extern "C" fn inkcapper_three_link(
 ) -> u32
     ensures { λ r. ⌜ crossing r (now (values .exit)) (now (rows .exit)) ≡ crossed (threeLink (now (rows .entry)) ld rd) ⌝ }
 {
-    hand_on(link_three::three::three_link(rows, ld, rd), values)
+    hand_on(link_three_calls::three::three_link(rows, ld, rd), values)
 }
 
 // Unlinks ld and its image by beta 1, which is answered.
@@ -64,5 +64,5 @@ pub extern "C" fn inkcapper_two_unlink(rows: &mut [u32], ld: u32, values: &mut [
 pub extern "C" fn inkcapper_three_unlink(rows: &mut [u32], ld: u32, values: &mut [u64; 3]) -> u32
     ensures { λ r. ⌜ crossing r (now (values .exit)) (now (rows .exit)) ≡ crossed (threeUnlink (now (rows .entry)) ld) ⌝ }
 {
-    hand_on(link_three::three::three_unlink(rows, ld), values)
+    hand_on(link_three_calls::three::three_unlink(rows, ld), values)
 }

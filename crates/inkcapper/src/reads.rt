@@ -9,7 +9,7 @@ ghost use Rattle.map_betas.specs.Flat.{flat, flatOf};
 pub extern "C" fn inkcapper_check_map(rows: &[u32], values: &mut [u64; 3]) -> u32
     ensures { λ r. ⌜ flat r (now (values .exit)) ≡ flatOf (checkMap (now (rows .entry))) ⌝ }
 {
-    map_reads::numbers::check_map(rows, values)
+    map_read_numbers::numbers::check_map(rows, values)
 }
 
 // The image of d by beta i.
@@ -17,7 +17,7 @@ pub extern "C" fn inkcapper_check_map(rows: &[u32], values: &mut [u64; 3]) -> u3
 pub extern "C" fn inkcapper_beta(rows: &[u32], i: u32, d: u32, values: &mut [u64; 3]) -> u32
     ensures { λ r. ⌜ flat r (now (values .exit)) ≡ flatOf (betaRead (now (rows .entry)) i d) ⌝ }
 {
-    map_reads::numbers::beta(rows, i, d, values)
+    map_read_numbers::numbers::beta(rows, i, d, values)
 }
 
 // Whether the image of d by beta i is null.
@@ -25,7 +25,7 @@ pub extern "C" fn inkcapper_beta(rows: &[u32], i: u32, d: u32, values: &mut [u64
 pub extern "C" fn inkcapper_is_i_free(rows: &[u32], i: u32, d: u32, values: &mut [u64; 3]) -> u32
     ensures { λ r. ⌜ flat r (now (values .exit)) ≡ flatOf (iFree (now (rows .entry)) i d) ⌝ }
 {
-    map_reads::numbers::is_i_free(rows, i, d, values)
+    map_read_numbers::numbers::is_i_free(rows, i, d, values)
 }
 
 // Whether d has no image.
@@ -33,5 +33,5 @@ pub extern "C" fn inkcapper_is_i_free(rows: &[u32], i: u32, d: u32, values: &mut
 pub extern "C" fn inkcapper_is_free(rows: &[u32], d: u32, values: &mut [u64; 3]) -> u32
     ensures { λ r. ⌜ flat r (now (values .exit)) ≡ flatOf (isFree (now (rows .entry)) d) ⌝ }
 {
-    map_reads::numbers::is_free(rows, d, values)
+    map_read_numbers::numbers::is_free(rows, d, values)
 }

@@ -39,7 +39,7 @@ pub extern "C" fn inkcapper_one_unsew(
         ≡ crossed (oneUnsew (now (rows .entry)) (now (marks .entry)) (now (queue .entry)) (now (plan .entry)) ld) ⌝ }
 {
     hand_on(
-        sew_calls::calls::one_unsew(rows, marks, queue, plan, ld),
+        sew_unsew_calls::calls::one_unsew(rows, marks, queue, plan, ld),
         values,
     )
 }
@@ -81,7 +81,7 @@ pub extern "C" fn inkcapper_two_unsew(
         ≡ crossed (twoUnsew (now (rows .entry)) (now (marks .entry)) (now (queue .entry)) (now (plan .entry)) ld) ⌝ }
 {
     hand_on(
-        sew_calls::calls::two_unsew(rows, marks, queue, plan, ld),
+        sew_unsew_calls::calls::two_unsew(rows, marks, queue, plan, ld),
         values,
     )
 }
@@ -100,7 +100,7 @@ pub extern "C" fn inkcapper_three_unsew(
         ≡ crossed (threeUnsew (now (rows .entry)) (now (marks .entry)) (now (queue .entry)) (now (plan .entry)) ld) ⌝ }
 {
     hand_on(
-        sew_calls::calls::three_unsew(rows, marks, queue, plan, ld),
+        sew_unsew_calls::calls::three_unsew(rows, marks, queue, plan, ld),
         values,
     )
 }

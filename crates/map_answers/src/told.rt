@@ -22,6 +22,7 @@ fn tell_refusal(w: Refusal) -> Told
         Refusal::BadGeometry(i, l, r) => numbers(10, i as u64, l as u64, r as u64),
         Refusal::PlanRoom(k) => numbers(11, k as u64, 0, 0),
         Refusal::BadImage(k) => numbers(12, k as u64, 0, 0),
+        Refusal::BadCommand(k) => numbers(13, k as u64, 0, 0),
         Refusal::ImageRoom(k) => numbers(14, k as u64, 0, 0),
     }
 }

@@ -14,7 +14,8 @@ use Rattle.map_betas.specs.declared.error.Answer.{Answer}
 use Rattle.map_betas.specs.declared.error.Answer.the-variants.{Done, Refused}
 use Rattle.map_betas.specs.declared.error.Refusal.{Refusal}
 use Rattle.map_betas.specs.declared.error.Refusal.the-variants.{BadSize, ShortLoan, NotAMap, BadDart, BadBeta, NonFreeBase}
-use Rattle.map_betas.specs.declared.error.Refusal.the-variants.{NonFreeImage, AlreadyFree, AsymmetricalFaces, BadGeometry, PlanRoom, BadImage, ImageRoom}
+use Rattle.map_betas.specs.declared.error.Refusal.the-variants.{NonFreeImage, AlreadyFree, AsymmetricalFaces, BadGeometry, PlanRoom, BadImage, BadCommand}
+use Rattle.map_betas.specs.declared.error.Refusal.the-variants.{ImageRoom}
 use Rattle.map_betas.specs.declared.error.Told.{Told}
 
 abbrev pub pass : Answer
@@ -45,6 +46,7 @@ refusalOf (AsymmetricalFaces l r) = toldOf 9 l r 0
 refusalOf (BadGeometry i l r) = toldOf 10 i l r
 refusalOf (PlanRoom k) = toldOf 11 k 0 0
 refusalOf (BadImage k) = toldOf 12 k 0 0
+refusalOf (BadCommand k) = toldOf 13 k 0 0
 refusalOf (ImageRoom k) = toldOf 14 k 0 0
 
 abbrev pub tellOf : Answer → Told

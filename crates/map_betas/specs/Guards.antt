@@ -2,6 +2,8 @@
 --   enough             the length that a loan counts as which a call has not
 --   noLoans, scratchOf  the loans of a call that has none; that has marks and queue
 --   orbitLoans, listLoans, vertexLoans, readerLoans   the loans of an orbit call, a list call, a 2-sew and the reader
+--   countedAs          what a loan counts as that is not measured in darts
+--   commandLoans       the loans of a list of commands
 --   loanTest n loans   refuses the first loan that is too short for n darts
 --   dartTest n least a b   refuses the first dart that is below `least` or no dart of n
 --   guardOf            all tests of a call on a map
@@ -49,6 +51,22 @@ vertexLoans marks queue vertices coordinates =
 abbrev pub readerLoans : ℕ → ℕ → ℕ → Loans
 readerLoans flags vertices coordinates =
     record { marks = enough; queue = enough; output = enough; flags = flags; vertices = vertices; coordinates = coordinates }
+
+-- a loan that is not measured in darts is long enough for any map, or counts as none
+abbrev pub countedAs : ℕ → ℕ → ℕ
+countedAs lent needed = cond (leb needed lent) enough 0
+
+-- the loans of a list of commands: its output has places for each command and not for each dart (scope: commands)
+abbrev pub commandLoans : ℕ → ℕ → ℕ → ℕ → ℕ → ℕ → Loans
+commandLoans marks queue output needed vertices coordinates =
+    record {
+      marks = marks;
+      queue = queue;
+      output = countedAs output needed;
+      flags = enough;
+      vertices = vertices;
+      coordinates = coordinates;
+    }
 
 -- the first loan that is too short, in the order of their numbers (scope: loans)
 unfoldable pub loanTest : ℕ → Loans → Answer

@@ -2,7 +2,7 @@
 ghost use mathlib.Core.Path.{_≡_};
 ghost use Rattle.map_betas.specs.Answers.{isDone};
 
-// Why a call was refused: a variant for each of the numbers 1 to 12, and 14.
+// Why a call was refused: a variant for each of the numbers 1 to 14.
 pub enum Refusal {
     // The length of the rows.
     BadSize(usize),
@@ -27,6 +27,8 @@ pub enum Refusal {
     PlanRoom(usize),
     // The word or the block of the image.
     BadImage(u32),
+    // The operation of a command that is none; 0 of a list that is no whole commands.
+    BadCommand(u32),
     // The bytes needed.
     ImageRoom(usize),
 }

@@ -1,6 +1,6 @@
 // The loans of each call, by their lengths: a literal for each set of loans that a call has.
 ghost use mathlib.Core.Path.{_≡_};
-ghost use Rattle.map_betas.specs.Guards.{noLoans, scratchOf, orbitLoans, listLoans, vertexLoans, readerLoans};
+ghost use Rattle.map_betas.specs.Guards.{noLoans, scratchOf, orbitLoans, listLoans, vertexLoans, readerLoans, countedAs, commandLoans};
 
 // The lengths of the loans that a call has; a loan that it has not counts as `ENOUGH`.
 pub struct Loans {
@@ -94,6 +94,35 @@ pub fn reader_loans(flags: usize, vertices: usize, coordinates: usize) -> Loans
         queue: ENOUGH,
         output: ENOUGH,
         flags,
+        vertices,
+        coordinates,
+    }
+}
+
+// What a loan that is not measured in darts counts as: `ENOUGH` where it has the places needed, else nothing.
+fn counted_as(lent: usize, needed: usize) -> usize
+    ensures { λ r. ⌜ r ≡ countedAs lent needed ⌝ }
+{
+    if needed <= lent { ENOUGH } else { 0 }
+}
+
+// The loans of a list of commands, whose answers need as many places of the output as `needed` says.
+pub fn command_loans(
+    marks: usize,
+    queue: usize,
+    output: usize,
+    needed: usize,
+    vertices: usize,
+    coordinates: usize,
+) -> Loans
+    ensures { λ r. ⌜ r ≡ commandLoans marks queue output needed vertices coordinates ⌝ }
+{
+    let answers = counted_as(output, needed);
+    Loans {
+        marks,
+        queue,
+        output: answers,
+        flags: ENOUGH,
         vertices,
         coordinates,
     }

@@ -1,3 +1,2 @@
-// Reads and free tests, and their answers as numbers.
+// Reads and free tests.
 pub mod basic_ops;
-pub mod numbers;

@@ -115,8 +115,22 @@ fn sides_lead_back(rows: &[u32], d: u32, x: u32, y: u32) -> bool
     y != d
 }
 
-// True only where no image of a real dart d breaks a rule: the four are read at once and their range is tested by pairs. Those by beta 0 and beta 1 have to
-// lead back, as nearly all do; a null one is left to `least_breach`.
+// True only where four images are all darts of n. Their bits together are no less than any of them, and are nearly always below n: one test for four. Where they
+// are not, the images are compared by pairs.
+fn all_below(n: usize, x0: u32, x1: u32, x2: u32, x3: u32) -> bool
+    ensures { λ r. ⌜ (r ≡ true → (x0 < n) × (x1 < n) × (x2 < n) × (x3 < n)) ⌝ }
+{
+    if ((x0 | x1 | x2 | x3) as usize) < n {
+        return true;
+    }
+    if n <= larger_of(x0, x1) as usize {
+        return false;
+    }
+    (larger_of(x2, x3) as usize) < n
+}
+
+// True only where no image of a real dart d breaks a rule: the four are read at once and their range is tested. Those by beta 0 and beta 1 have to lead back, as
+// nearly all do; a null one is left to `least_breach`.
 fn leads_back(rows: &[u32], d: u32) -> bool
     requires { ⌜ (length (now rows) ≡ 4 * darts (now rows)) × (0 < d) × (d < darts (now rows)) ⌝ }
     ensures { λ r. ⌜ (r ≡ true → 4 ≡ breachAt (now (rows .entry)) d) ⌝ }
@@ -126,10 +140,7 @@ fn leads_back(rows: &[u32], d: u32) -> bool
     let x1 = beta_at(rows, 1, d);
     let x2 = beta_at(rows, 2, d);
     let x3 = beta_at(rows, 3, d);
-    if n <= larger_of(x0, x1) as usize {
-        return false;
-    }
-    if n <= larger_of(x2, x3) as usize {
+    if !all_below(n, x0, x1, x2, x3) {
         return false;
     }
     if beta_at(rows, 1, x0) != d {

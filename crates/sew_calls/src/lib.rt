@@ -1,2 +1,2 @@
-// The five sews and unsews as calls.
+// The 1- and the 2-sew as calls.
 pub mod calls;

@@ -4,6 +4,7 @@
 --   three-ready     the rows that the 3-unlink has left, and the darts of the 3-link that undoes it
 --   three-tight     the plan has no room, and the rows are linked again
 --   three-done      done
+--   sewn-kept       a work that leaves a map of as many darts does so with any room, done or refused
 --   three-kept      a 3-unsew leaves a map of as many darts, done or refused
 --   call-kept       and so does the call, whatever its loans and its dart
 --   call-three-unsew-refused   a refused call leaves rows and plan as they were
@@ -100,7 +101,7 @@ module _ (rows plan : List ℕ) (w : WellFormed rows) where
   either true rows₁ k = k
   either false rows₁ k = (w, refl)
 
-  sewn-kept : (x : Work) → Keeps rows (x .rows) → Keeps rows (sewn rows plan x .rows)
+  pub sewn-kept : (x : Work) → Keeps rows (x .rows) → Keeps rows (sewn rows plan x .rows)
   unfolding sewn
   sewn-kept x k = go (isDone (x .answer))
     where

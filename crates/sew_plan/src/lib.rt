@@ -6,7 +6,7 @@ ghost use lib.ListN.{length};
 ghost use Rattle.sew_plan.specs.Plan.{width, codeOf, lesserOf, mergeOf, splitOf, written, roomOf};
 
 // The numbers that one entry takes: its code and three identifiers.
-const WIDTH: usize = 4;
+pub const WIDTH: usize = 4;
 
 // What becomes of them.
 pub enum Kind {

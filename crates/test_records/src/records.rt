@@ -1,7 +1,7 @@
 // The records: what each says of one call, and what a walk over them met.
 //
 // A record is one byte for each number: operation, n, a, b, number, three values, points, room, count of betas, count of words written;
-// then the betas, 4n rows before, 4n rows after, and the words written.
+// then the betas or the numbers of a list of commands, 4n rows before, 4n rows after, and the words written.
 ghost use Prim.Native.Nat.{_≤_};
 
 // What stands in output and plan before a call.
@@ -75,6 +75,9 @@ fn wanted(bytes: &[u8], count: usize, i: usize) -> u32 {
 
 // Whether the first words of a loan are the record's, and the rest as before the call.
 pub fn same(list: &[u32], count: usize, bytes: &[u8]) -> bool {
+    if list.len() < count {
+        return false;
+    }
     let mut i = 0;
     while i < list.len() {
         if list[i] != wanted(bytes, count, i) {
@@ -83,22 +86,6 @@ pub fn same(list: &[u32], count: usize, bytes: &[u8]) -> bool {
         i += 1;
     }
     true
-}
-
-// Whether the values are the record's.
-pub fn same_values(values: &[u64; 3], record: &[u8]) -> bool {
-    values[0] == word(record, 5) as u64
-        && values[1] == word(record, 6) as u64
-        && values[2] == word(record, 7) as u64
-}
-
-// Whether output and plan are as the record says: a list is written to output, a plan to plan.
-pub fn same_written(record: &[u8], output: &[u32], plan: &[u32], bytes: &[u8]) -> bool {
-    let count = size(record, 11);
-    if 18 < size(record, 0) {
-        return same(output, count, bytes) && same(plan, 0, bytes);
-    }
-    same(plan, count, bytes) && same(output, 0, bytes)
 }
 
 // Counts a record by its operation and by its number.

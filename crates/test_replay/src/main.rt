@@ -1,5 +1,7 @@
 // Replays a list of answers against the exported calls: standard input holds the records, and what agrees and what differs is counted.
 mod calls;
+mod cells;
+mod joins;
 mod replays;
 
 use test_records::report;

@@ -1,45 +1,26 @@
 // The replay: record after record, each with its call.
 use crate::calls::call;
+use test_records::compared::as_recorded;
+use test_records::loans::rows_before;
 use test_records::records::FILLER;
 use test_records::records::Walked;
 use test_records::records::count;
 use test_records::records::darts;
 use test_records::records::extent;
-use test_records::records::fill;
 use test_records::records::noted;
 use test_records::records::room;
-use test_records::records::same;
-use test_records::records::same_values;
-use test_records::records::same_written;
-use test_records::records::size;
-use test_records::records::word;
-
-// Makes a record's call on these loans: whether the number and the values are the record's.
-fn answered(record: &[u8], rows: &mut [u32], output: &mut [u32], plan: &mut [u32]) -> bool {
-    let mut values = [0u64; 3];
-    let number = call(record, rows, output, plan, &mut values);
-    number == word(record, 4) && same_values(&values, record)
-}
 
 // Makes a record's call on these loans and compares.
 fn replayed(record: &[u8], rows: &mut [u32], output: &mut [u32], plan: &mut [u32]) -> bool {
-    let before = 12 + size(record, 10);
-    let m = 4 * darts(record);
-    let after = before + m;
-    let written = after + m;
-    if record.len() < written {
-        return false;
-    }
-    fill(rows, &record[before..]);
-    answered(record, rows, output, plan)
-        && same(rows, m, &record[after..])
-        && same_written(record, output, plan, &record[written..])
+    let mut values = [0u64; 3];
+    let number = call(record, rows, output, plan, &mut values);
+    as_recorded(record, number, &values, rows, output, plan)
 }
 
 // Lends a record's call what it needs, and compares.
 fn holds(record: &[u8]) -> bool {
-    let mut rows = [0u32; 32];
-    let mut output = [FILLER; 16];
+    let mut rows = rows_before(record);
+    let mut output = [FILLER; 32];
     let mut plan = [FILLER; 64];
     let m = 4 * darts(record);
     let words = room(record);

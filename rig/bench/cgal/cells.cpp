@@ -1,9 +1,10 @@
 // The benchmark's lines on CGAL's Combinatorial_map, for a grid of cubes or one closed face.
 //
-//   cells grid SIDE RUNS      cells ring DARTS RUNS
+//   cells grid SIDE RUNS      cells ring DARTS RUNS      cells sews SIDE RUNS
 //
 // Prints what bench/src/cgal.rs reads: `hash NAME COUNT HASH`, by which the caller makes sure that the
-// map and every list are the same as its own, and `line NAME NS NS ...`, one time for each run.
+// map and every list are the same as its own, and `line NAME NS NS ...`, one time for each run. Of a grid
+// `sews` prints the sews alone.
 
 #include <CGAL/Combinatorial_map.h>
 
@@ -225,6 +226,8 @@ int main(int count, char **words) {
     for (unsigned int i = 0; i < 4; ++i)
       rows.push_back(map.is_free(by_number[d], i) ? 0 : map.info(map.beta(by_number[d], i)));
   print_hash("rows", rows);
+  if (std::strcmp(words[1], "sews") == 0)
+    return 0;
 
   std::vector<double> valid;
   for (int run = 0; run < runs; ++run) {

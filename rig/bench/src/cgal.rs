@@ -34,6 +34,25 @@ pub fn version() -> Option<String> {
     text.lines().find_map(|line| line.strip_prefix("#define CGAL_VERSION ")).map(str::to_string)
 }
 
+/// What a line of CGAL's is here, by its name there.
+type Names = HashMap<String, Line>;
+
+/// The lines of sews.
+fn sew_names() -> Names {
+    Names::from([
+        ("sew_3".to_string(), Line::ThreeLink),
+        ("tested_sew_3".to_string(), Line::TestedSew),
+        ("unsew_3".to_string(), Line::ThreeUnlink),
+    ])
+}
+
+/// Runs it on a grid for its sews alone, and makes sure that the map is ours.
+pub fn sews(times: &mut Times, program: &Path, input: Input, rows: &[u32], runs: usize) -> Result<(), String> {
+    let Input::Grid(side) = input else { return Err("only grids are sewn".into()) };
+    let text = run(program, "sews", side, runs)?;
+    take(times, input, &text, HashMap::from([("rows".to_string(), rows)]), &sew_names())
+}
+
 /// Runs it on one input and makes sure that map, lists and identifiers are ours.
 pub fn measure(
     times: &mut Times,
@@ -48,19 +67,10 @@ pub fn measure(
         Input::Grid(side) => ("grid", side),
         Input::Ring(darts) => ("ring", darts as usize),
     };
-    let output = Command::new(program).arg(kind).arg(size.to_string()).arg(runs.to_string()).output();
-    let output = output.map_err(|e| e.to_string())?;
-    if !output.status.success() {
-        return Err(format!("cells {kind} {size} ended with {}", output.status));
-    }
-    let text = String::from_utf8_lossy(&output.stdout).into_owned();
+    let text = run(program, kind, size, runs)?;
     let mut expected = HashMap::from([("rows".to_string(), rows)]);
-    let mut lines = HashMap::from([
-        ("is_valid".to_string(), Line::MapTest),
-        ("sew_3".to_string(), Line::ThreeLink),
-        ("tested_sew_3".to_string(), Line::TestedSew),
-        ("unsew_3".to_string(), Line::ThreeUnlink),
-    ]);
+    let mut lines = sew_names();
+    lines.insert("is_valid".to_string(), Line::MapTest);
     for (at, cell) in CELLS.into_iter().enumerate() {
         let (one, many) = cell_name(cell);
         expected.insert(format!("first_{many}"), &lists[at]);
@@ -73,6 +83,27 @@ pub fn measure(
         lines.insert(format!("id_{one}"), Line::Id(cell));
         lines.insert(format!("orbit_{one}"), Line::Orbit(cell));
     }
+    take(times, input, &text, expected, &lines)
+}
+
+/// What the program prints for a map of this kind and size.
+fn run(program: &Path, kind: &str, size: usize, runs: usize) -> Result<String, String> {
+    let output = Command::new(program).arg(kind).arg(size.to_string()).arg(runs.to_string()).output();
+    let output = output.map_err(|e| e.to_string())?;
+    if !output.status.success() {
+        return Err(format!("cells {kind} {size} ended with {}", output.status));
+    }
+    Ok(String::from_utf8_lossy(&output.stdout).into_owned())
+}
+
+/// Takes the times of a printed text, and holds its words against those that are expected.
+fn take(
+    times: &mut Times,
+    input: Input,
+    text: &str,
+    mut expected: HashMap<String, &[u32]>,
+    lines: &Names,
+) -> Result<(), String> {
     for line in text.lines() {
         let words: Vec<&str> = line.split(' ').collect();
         match words[..] {

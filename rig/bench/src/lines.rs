@@ -44,6 +44,16 @@ pub enum Line {
     CopyImage(Points),
     ReadImage(Points),
     WriteImage(Points),
+    /// A list of no commands: its map test and its clearing of scratch.
+    EmptyList,
+    /// All inner faces 3-linked by one list, a face, and what it takes beyond the empty list.
+    Glue,
+    BeyondGlue,
+    /// A grid built from free darts by one list.
+    Build,
+    /// A command of this operation, in a list of such alone, and what it takes beyond the empty list.
+    Command(u32),
+    BeyondList(u32),
 }
 
 /// Which slots of a stored grid hold a point.
@@ -127,6 +137,12 @@ impl Line {
             Self::CopyImage(points) => format!("image copied, {}", points.name()),
             Self::ReadImage(points) => format!("image read, {}", points.name()),
             Self::WriteImage(points) => format!("image written, {}", points.name()),
+            Self::EmptyList => "list of no commands".into(),
+            Self::Glue => "inner face, in a list".into(),
+            Self::BeyondGlue => "inner face beyond the empty list".into(),
+            Self::Build => "grid from free darts, in a list".into(),
+            Self::Command(operation) => format!("operation {operation}, in a list"),
+            Self::BeyondList(operation) => format!("operation {operation} beyond the empty list"),
         }
     }
 }

@@ -1,13 +1,15 @@
 //! Measures the proved library against the published Rust and CGAL. README.md has the command.
 //!
 //! Prints a table; writes BENCHMARK.md and benchmark.svg to the folder named as the argument, else to
-//! the repository's docs.
+//! the repository's docs. With the argument `commands` it measures lists of commands alone, prints their
+//! tables and writes nothing.
 
 mod cgal;
 mod clock;
 mod grid;
 mod images;
 mod lines;
+mod lists;
 mod ours;
 mod plot;
 mod report;
@@ -19,6 +21,7 @@ use std::process::{Command, ExitCode};
 use inkcapper::Cell;
 
 use lines::{CELLS, Input, Times};
+use lists::Runs;
 use report::{Inputs, Machine};
 
 // naming the crate links it
@@ -38,6 +41,7 @@ const PASSES: usize = 4;
 const OURS: usize = 5;
 const LISTS: usize = 2;
 const PEERS: usize = 4;
+const COMMANDS: Runs = Runs { ours: 5, text: 1 };
 
 fn main() -> ExitCode {
     if cfg!(not(feature = "linked")) {
@@ -45,6 +49,7 @@ fn main() -> ExitCode {
         return ExitCode::FAILURE;
     }
     let named = std::env::args_os().nth(1).map(PathBuf::from);
+    let commands_alone = named.as_ref().is_some_and(|word| word.as_os_str() == "commands");
     let docs = named.unwrap_or_else(|| Path::new(env!("CARGO_MANIFEST_DIR")).join("../../docs"));
 
     let program = cgal::build();
@@ -54,17 +59,28 @@ fn main() -> ExitCode {
     let mut times = Times::default();
     for pass in 1..=PASSES {
         eprintln!("pass {pass} of {PASSES}");
+        if commands_alone {
+            INPUTS.grids.iter().for_each(|&input| measure_commands(&mut times, input, program.as_deref().ok()));
+            continue;
+        }
         for input in INPUTS.grids.into_iter().chain([INPUTS.small, INPUTS.ring]) {
             measure(&mut times, input, program.as_deref().ok());
         }
     }
 
-    println!("{}", report::summary(&times, &INPUTS));
+    if commands_alone {
+        println!("{}", lists::tables(&times, &INPUTS.grids));
+    } else {
+        println!("{}", report::summary(&times, &INPUTS));
+    }
     let cgal = program.map(|program| {
         // ours alone, and of no use afterwards
         let _ = std::fs::remove_file(program);
         cgal::version().unwrap_or_else(|| "of unknown version".into())
     });
+    if commands_alone {
+        return ExitCode::SUCCESS;
+    }
     if cfg!(debug_assertions) {
         println!(
             "Built with debug assertions, which slow the published Rust: nothing is written. Use --profile measure."
@@ -84,6 +100,16 @@ fn main() -> ExitCode {
     ExitCode::SUCCESS
 }
 
+/// One pass over one grid with lists of commands alone.
+fn measure_commands(times: &mut Times, input: Input, program: Option<&Path>) {
+    let Input::Grid(side) = input else { unreachable!("only grids are glued") };
+    let grid = grid::cubes(side);
+    lists::measure(times, input, &grid, &mut text::hold(&grid), COMMANDS);
+    if let Some(program) = program {
+        cgal::sews(times, program, input, &grid.rows, PEERS).unwrap_or_else(|why| panic!("CGAL: {why}"));
+    }
+}
+
 /// One pass over one input: ours, the published Rust, CGAL.
 fn measure(times: &mut Times, input: Input, program: Option<&Path>) {
     let mut grid = match input {
@@ -97,6 +123,9 @@ fn measure(times: &mut Times, input: Input, program: Option<&Path>) {
         let ids = ours::calls(times, input, &mut grid, OURS);
         text::calls(times, input, &mut oracle, &grid, &ids, PEERS);
         images::measure(times, input, &grid, &lists[Cell::Vertex as usize], OURS);
+        if INPUTS.grids.contains(&input) {
+            lists::measure(times, input, &grid, &mut oracle, COMMANDS);
+        }
         Some(ids)
     } else {
         // its face and volume lists would walk the whole ring from each dart

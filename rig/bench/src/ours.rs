@@ -114,7 +114,7 @@ pub fn calls(times: &mut Times, input: Input, grid: &mut Grid, runs: usize) -> L
             };
             let mut answers = Vec::with_capacity(probes.len());
             let took = time(|| answers.extend(probes.iter().enumerate().map(|(k, &d)| call(k, d))));
-            let answers = answers.into_iter().map(|answer| answer.done().expect("done").0 as u32).collect();
+            let answers = answers.into_iter().map(|answer| answer.done().expect("done").0).collect();
             if let Line::Id(cell) = CALLS[at] {
                 ids[cell as usize] = answers;
             }

@@ -7,6 +7,7 @@ use inkcapper::Cell;
 use crate::clock::{Spread, human};
 use crate::images;
 use crate::lines::{CALLS, CELLS, IMAGES, Input, Line, PASSES, Times, Who, cell_name};
+use crate::lists;
 
 /// What the report says of where it was made.
 pub struct Machine {
@@ -52,6 +53,11 @@ pub fn times_text(ratio: Option<f64>) -> String {
 /// A time that may be below zero, being a difference.
 fn signed(ns: f64) -> String {
     if ns < 0.0 { format!("−{}", human(-ns)) } else { human(ns) }
+}
+
+/// A spread of such times.
+pub fn signed_cell(spread: Option<Spread>) -> String {
+    spread.map_or("–".into(), |s| format!("{} ({}..{})", signed(s.median), signed(s.least), signed(s.most)))
 }
 
 struct Report<'a> {
@@ -130,14 +136,12 @@ impl Report<'_> {
         self.say("| call | ours | map test beside it | beyond the map test | published Rust | CGAL |");
         self.say("|---|---|---|---|---|---|");
         for (at, line) in CALLS.into_iter().enumerate() {
-            let beyond = self.ours(input, Line::Beyond(at));
-            let beyond = beyond
-                .map_or("–".into(), |s| format!("{} ({}..{})", signed(s.median), signed(s.least), signed(s.most)));
             self.say(format!(
-                "| {} | {} | {} | {beyond} | {} | {} |",
+                "| {} | {} | {} | {} | {} | {} |",
                 line.name(),
                 cell(self.ours(input, line)),
                 cell(self.ours(input, Line::TestBeside(at))),
+                signed_cell(self.ours(input, Line::Beyond(at))),
                 cell(self.peer(Who::Text, input, line)),
                 cell(self.peer(Who::Cgal, input, line)),
             ));
@@ -339,6 +343,9 @@ pub fn report(times: &Times, inputs: &Inputs, machine: &Machine) -> String {
     r.say("\n## Stored images\n");
     r.say("The same grids as images of form 1, with a point at the dart that names each vertex, and with one in every slot. Reader and writer each contain one map test, and refuse before they write anything; a plain copy of as many bytes stands beside them. Neither peer has such images.\n");
     r.say(images::table(times, &inputs.grids).trim_end());
+    r.say("\n## Lists of commands\n");
+    r.say("One call makes thousands of joins under one map test and one clearing of scratch, which every time of ours below contains. The published Rust makes the same commands as single calls, without a map test; what it asks of its stores is written down as our plan is. Every command is done, and rows and plans are the same on all sides. CGAL's times are its `is_sewable<3>` and `sew<3>` together.\n");
+    r.say(lists::tables(times, &inputs.grids).trim_end());
     r.goals();
     r.text
 }

@@ -58,6 +58,32 @@ int main(void) {
     expect("2-sew", inkcapper_two_sew(strips, 20, marks5, 5, queue5, 5, defined, 5, against, 15, plan3, 12, 1, 3, v), v,
            0, 0, 3, 0);
 
+    /* the triangle and the quad glued by one list; a 3-link that is refused, and the faces parted again */
+    const uint32_t list[36] = {
+        INKCAPPER_ONE_LINK, 1, 2, INKCAPPER_ONE_LINK, 2, 3, INKCAPPER_ONE_LINK, 3, 1, INKCAPPER_ONE_LINK, 4, 5,
+        INKCAPPER_ONE_LINK, 5, 6, INKCAPPER_ONE_LINK, 6, 7, INKCAPPER_ONE_LINK, 7, 4, INKCAPPER_THREE_LINK, 4, 1,
+        INKCAPPER_THREE_LINK, 1, 4, INKCAPPER_THREE_UNSEW, 1, 99, INKCAPPER_THREE_UNSEW, 1, 99, 12, 0, 0};
+    uint32_t free_darts[32] = {0}, queue8[8], answers[60], plan7[28], left[32] = {0};
+    uint8_t marks8[8], no_points[8] = {0};
+    const double nowhere[24] = {0};
+    const uint32_t last[25] = {7, 3, 7, 1, 0, 0, 0, 0, 0, 0, 0, 4, 0, 0, 7, 8, 3, 1, 0, 0, 13, 12, 0, 0, 0};
+    expect("no whole commands",
+           inkcapper_commands(free_darts, 32, marks8, 8, queue8, 8, answers, 60, no_points, 8, nowhere, 24, plan7, 28,
+                              list, 35, v), v, 13, 0, 0, 0);
+    expect("short",
+           inkcapper_commands(free_darts, 32, marks8, 8, queue8, 8, answers, 59, no_points, 8, nowhere, 24, plan7, 28,
+                              list, 36, v), v, 2, 3, 0, 0);
+    expect("list",
+           inkcapper_commands(free_darts, 32, marks8, 8, queue8, 8, answers, 60, no_points, 8, nowhere, 24, plan7, 28,
+                              list, 36, v), v, 0, 0, 7, 0);
+    join(left, 1, 1, 2), join(left, 1, 2, 3), join(left, 1, 3, 1);
+    join(left, 1, 4, 5), join(left, 1, 5, 6), join(left, 1, 6, 7), join(left, 1, 7, 4);
+    if (memcmp(answers + 35, last, sizeof last) || memcmp(free_darts, left, sizeof left) ||
+        plan7[0] != INKCAPPER_FACE_SPLIT || plan7[1] != 1 || plan7[2] != 4) {
+        puts("list: other answers, rows or plan");
+        wrong = 1;
+    }
+
     /* cells of a triangle */
     uint32_t triangle[16] = {0}, queue4[4], output[4];
     uint8_t marks4[4], flags[4] = {0};

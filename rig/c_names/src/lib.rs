@@ -115,6 +115,34 @@ pub unsafe extern "C" fn inkcapper_two_sew(
     tell(model::two_sew(rows, marks, queue, vertex_marks, coordinates, plan, ld, rd), values)
 }
 
+#[unsafe(no_mangle)]
+pub unsafe extern "C" fn inkcapper_commands(
+    rows: *mut u32,
+    rows_len: usize,
+    marks: *mut u8,
+    marks_len: usize,
+    queue: *mut u32,
+    queue_len: usize,
+    output: *mut u32,
+    output_len: usize,
+    vertex_marks: *const u8,
+    vertex_marks_len: usize,
+    coordinates: *const f64,
+    coordinates_len: usize,
+    plan: *mut u32,
+    plan_len: usize,
+    commands: *const u32,
+    commands_len: usize,
+    values: *mut [u64; 3],
+) -> u32 {
+    let (rows, marks, queue) = unsafe { (lent(rows, rows_len), lent(marks, marks_len), lent(queue, queue_len)) };
+    let (output, plan) = unsafe { (lent(output, output_len), lent(plan, plan_len)) };
+    let (vertex_marks, coordinates) =
+        unsafe { (read(vertex_marks, vertex_marks_len), read(coordinates, coordinates_len)) };
+    let commands = unsafe { read(commands, commands_len) };
+    tell(model::commands(rows, marks, queue, output, vertex_marks, coordinates, plan, commands), values)
+}
+
 macro_rules! identifiers {
     ($($name:ident = $cell:expr;)*) => { $(
         #[unsafe(no_mangle)]

@@ -89,12 +89,14 @@ pub enum Call {
     List {
         cell: Cell,
     },
+    /// A list of commands, which stands in the loans.
+    Commands,
     ReadImage,
     WriteImage,
 }
 
 /// The calls by name, in the order of the scope.
-pub const NAMES: [&str; 35] = [
+pub const NAMES: [&str; 36] = [
     "beta",
     "is_i_free",
     "is_free",
@@ -130,6 +132,7 @@ pub const NAMES: [&str; 35] = [
     "list_volumes",
     "read_image",
     "write_image",
+    "commands",
 ];
 
 impl Call {
@@ -172,6 +175,7 @@ impl Call {
             Call::List { cell } => 29 + *cell as usize,
             Call::ReadImage => 33,
             Call::WriteImage => 34,
+            Call::Commands => 35,
         }
     }
 
@@ -197,7 +201,7 @@ impl Call {
                 betas.iter().map(|&i| u32::from(i)).chain([d]).collect()
             }
             Call::Orbit { d, .. } => vec![d],
-            Call::CheckMap | Call::List { .. } | Call::ReadImage | Call::WriteImage => Vec::new(),
+            Call::CheckMap | Call::List { .. } | Call::Commands | Call::ReadImage | Call::WriteImage => Vec::new(),
         }
     }
 
@@ -210,7 +214,27 @@ impl Call {
                 | Call::TwoSew { .. }
                 | Call::TwoUnsew { .. }
                 | Call::ThreeUnsew { .. }
+                | Call::Commands
         )
+    }
+
+    /// The call that a command stands for, by its operation and its darts; an unlink or unsew has the first alone.
+    pub fn of_command([operation, ld, rd]: [u32; 3]) -> Option<Self> {
+        let call = match operation {
+            1 => Call::OneLink { ld, rd },
+            2 => Call::TwoLink { ld, rd },
+            3 => Call::ThreeLink { ld, rd },
+            4 => Call::OneSew { ld, rd },
+            5 => Call::TwoSew { ld, rd },
+            6 => Call::OneUnlink { ld },
+            7 => Call::TwoUnlink { ld },
+            8 => Call::ThreeUnlink { ld },
+            9 => Call::OneUnsew { ld },
+            10 => Call::TwoUnsew { ld },
+            11 => Call::ThreeUnsew { ld },
+            _ => return None,
+        };
+        Some(call)
     }
 }
 
@@ -225,6 +249,7 @@ pub struct Loans {
     pub vertex_marks: Vec<u8>,
     pub coordinates: Vec<f64>,
     pub plan: Vec<u32>,
+    pub commands: Vec<u32>,
     pub bytes: Vec<u8>,
 }
 
@@ -245,6 +270,7 @@ impl Clone for Loans {
         self.vertex_marks.clone_from(&from.vertex_marks);
         self.coordinates.clone_from(&from.coordinates);
         self.plan.clone_from(&from.plan);
+        self.commands.clone_from(&from.commands);
         self.bytes.clone_from(&from.bytes);
     }
 }
@@ -263,6 +289,7 @@ impl Loans {
             vertex_marks: vec![0; n + 1],
             coordinates: vec![-7.25; 3 * n + 1],
             plan: vec![0xC0DE_0000; 4 * (3 * n + 1) + 3],
+            commands: Vec::new(),
             bytes: Vec::new(),
         }
     }
@@ -280,6 +307,7 @@ impl Loans {
             ("vertex marks", self.vertex_marks == other.vertex_marks),
             ("coordinates", bits(&self.coordinates, &other.coordinates)),
             ("plan", self.plan == other.plan),
+            ("commands", self.commands == other.commands),
             ("bytes", self.bytes == other.bytes),
         ];
         same.iter().find(|(_, same)| !same).map(|&(name, _)| name)

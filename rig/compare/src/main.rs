@@ -14,10 +14,15 @@
 //!   right, given to the reader; with a line for each kind, of what came of it
 //! - `writes K ROUNDS SEED`: images written: of all maps of up to K real darts with all flags and slots, then
 //!   of random ones, right and wrong, into bytes of every length around theirs; and there and back
+//! - `lists K ROUNDS SEED`: lists of commands: every single one on all maps of up to K real darts, every pair on
+//!   those of one dart fewer, then random ones, right and wrong, with plans that run out; with a line for each
+//!   operation, of what came of it
 //! - `answers K STRIDE POINTS`: prints the published Rust's own answers over all maps of K real darts,
 //!   every STRIDE-th call, one on a line (`runs::answers` says how); with POINTS 1 or 2 of 2-sews with
 //!   vertices
 //! - `wrong COUNT SEED`: prints the model's refusals 1, 3, 4 and 5 in the same form
+//! - `listed COUNT SEED`: prints the published Rust's answers to lists of commands in the same form, and the
+//!   model's where a whole list is refused
 //! - `cases FOLDER COUNT SEED`: writes images, and what the report program must print for each
 //!
 //! Without a run it does `small 0` to `small 4` and the others with their defaults. It ends with 1 if
@@ -33,7 +38,7 @@ use compare::{Comparison, Kernel, Library, Published, Random, maps, runs};
 fn main() -> ExitCode {
     let arguments: Vec<String> = std::env::args().skip(1).collect();
     match arguments.first().map(String::as_str) {
-        Some(run @ ("answers" | "wrong")) => return answers(run, &arguments[1..]),
+        Some(run @ ("answers" | "wrong" | "listed")) => return answers(run, &arguments[1..]),
         Some("cases") => return cases(&arguments[1..]),
         _ => {}
     }
@@ -57,7 +62,7 @@ fn plan(arguments: &[String]) -> Vec<(String, Vec<u64>)> {
         return vec![(run.clone(), arguments[1..].iter().map(|word| number(word)).collect())];
     }
     let mut plan: Vec<(String, Vec<u64>)> = (0..5).map(|k| ("small".to_string(), vec![k])).collect();
-    let others = ["walks", "floats", "refusals", "largest", "images", "bytes", "writes"];
+    let others = ["walks", "floats", "refusals", "largest", "images", "bytes", "writes", "lists"];
     plan.extend(others.map(|run| (run.to_string(), Vec::new())));
     plan
 }
@@ -82,6 +87,7 @@ fn perform(run: &str, numbers: &[u64]) -> (Comparison, Vec<String>) {
         "images" => runs::images(&mut comparison, count(0, 500_000), number(1, 1)),
         "bytes" => lines = runs::bytes(&mut comparison, count(0, 500_000), number(1, 1)),
         "writes" => runs::writes(&mut comparison, count(0, 3), count(1, 100_000), number(2, 1)),
+        "lists" => lines = runs::lists(&mut comparison, count(0, 4), count(1, 100_000), number(2, 1)),
         other => usage(other),
     }
     (comparison, lines)
@@ -95,12 +101,12 @@ fn number(word: &str) -> u64 {
 /// Says which runs there are, and ends with 2.
 fn usage<T>(word: &str) -> T {
     eprintln!(
-        "compare: {word}? runs are small, walks, floats, refusals, largest, images, bytes, writes, answers, wrong, cases"
+        "compare: {word}? runs are small, walks, floats, refusals, largest, images, bytes, writes, lists, answers, wrong, listed, cases"
     );
     std::process::exit(2)
 }
 
-/// Prints the published Rust's answers, or the model's to wrong input.
+/// Prints the published Rust's answers, to single calls or to lists, or the model's to wrong input.
 fn answers(run: &str, arguments: &[String]) -> ExitCode {
     let number = |at: usize, default| arguments.get(at).map_or(default, |word| number(word) as usize);
     let mut lines = std::io::stdout().lock();
@@ -110,10 +116,10 @@ fn answers(run: &str, arguments: &[String]) -> ExitCode {
             std::process::exit(0);
         }
     };
-    if run == "wrong" {
-        runs::wrong(number(0, 600), number(1, 1) as u64, print);
-    } else {
-        runs::answers(&mut Published::default(), number(0, 2), number(1, 1), number(2, 0), print);
+    match run {
+        "wrong" => runs::wrong(number(0, 600), number(1, 1) as u64, print),
+        "listed" => runs::listed(number(0, 500), number(1, 1) as u64, print),
+        _ => runs::answers(&mut Published::default(), number(0, 2), number(1, 1), number(2, 0), print),
     }
     ExitCode::SUCCESS
 }

@@ -3,6 +3,8 @@
 
 use compare::{Answer, Call, Cell, Comparison, Kernel, Loans, Model, Orbit, runs};
 
+#[path = "notices/commands.rs"]
+mod commands;
 #[path = "notices/writer.rs"]
 mod writer;
 
@@ -39,6 +41,7 @@ fn run(kernel: impl Kernel + 'static) -> Comparison {
     runs::images(&mut comparison, 5_000, 5);
     runs::bytes(&mut comparison, 5_000, 5);
     runs::writes(&mut comparison, 2, 2_000, 5);
+    runs::lists(&mut comparison, 2, 2_000, 5);
     comparison
 }
 

@@ -10,7 +10,8 @@ pub enum Answer {
     Done {
         /// The dart, or 1 for yes and 0 for no.
         first: u32,
-        /// Darts for orbits, lists and the reader; entries for plans; bytes for the writer.
+        /// Darts for orbits, lists and the reader; entries for plans, and for lists of commands in all; bytes
+        /// for the writer.
         count: u64,
     },
     /// Refused; rows, vertices, plan, output and bytes are as they were (scope: what is left).
@@ -46,6 +47,8 @@ pub enum Refusal {
     PlanRoom { entries: u64 },
     /// 12: this header word (0 to 6), or the flags (7), or the vertices (8) of the image are wrong.
     BadImage { part: u32 },
+    /// 13: there is no such operation; or, of a whole list, its length is no multiple of three (0).
+    BadCommand { operation: u32 },
     /// 14: the image needs this many bytes, and fewer are lent.
     ImageRoom { bytes: u64 },
     /// A number, or values, that no call of the proved library gives.
@@ -62,6 +65,7 @@ impl Answer {
     /// let refused = Answer::from_parts(11, [4, 0, 0]);
     /// assert_eq!(refused, Answer::Refused(Refusal::PlanRoom { entries: 4 }));
     /// assert_eq!(refused.to_string(), "refused 11: the plan needs room for 4 entries");
+    /// assert_eq!(Answer::from_parts(13, [12, 0, 0]).to_string(), "refused 13: there is no operation 12");
     /// assert_eq!(Answer::from_parts(14, [96, 0, 0]).to_string(), "refused 14: the image needs 96 bytes");
     /// assert_eq!(Answer::from_parts(11, [4, 0, 1]).parts(), (11, [4, 0, 1]));
     /// ```
@@ -81,6 +85,7 @@ impl Answer {
             (10, [Some(i), Some(ld), Some(rd)]) => Refusal::BadGeometry { i, ld, rd },
             (11, [_, Some(0), Some(0)]) => Refusal::PlanRoom { entries: a },
             (12, [Some(part), Some(0), Some(0)]) => Refusal::BadImage { part },
+            (13, [Some(operation), Some(0), Some(0)]) => Refusal::BadCommand { operation },
             (14, [_, Some(0), Some(0)]) => Refusal::ImageRoom { bytes: a },
             _ => Refusal::Unknown { number, values: [a, b, c] },
         };
@@ -125,6 +130,7 @@ impl Refusal {
             Self::BadGeometry { i, ld, rd } => of(10, [i, ld, rd]),
             Self::PlanRoom { entries } => (11, [entries, 0, 0]),
             Self::BadImage { part } => of(12, [part, 0, 0]),
+            Self::BadCommand { operation } => of(13, [operation, 0, 0]),
             Self::ImageRoom { bytes } => (14, [bytes, 0, 0]),
             Self::Unknown { number, values } => (number, values),
         }
@@ -174,6 +180,8 @@ impl fmt::Display for Refusal {
             Self::BadImage { part: 7 } => f.write_str("the image's flags are wrong"),
             Self::BadImage { part: 8 } => f.write_str("the image's vertices are wrong"),
             Self::BadImage { part } => write!(f, "the image's header word {part} is wrong"),
+            Self::BadCommand { operation: 0 } => f.write_str("a list of no whole commands, or an operation 0"),
+            Self::BadCommand { operation } => write!(f, "there is no operation {operation}"),
             Self::ImageRoom { bytes } => write!(f, "the image needs {bytes} bytes"),
             Self::Unknown { values: [a, b, c], .. } => write!(f, "{a} {b} {c}"),
         }

@@ -1,9 +1,9 @@
 //! The functions with C linkage, as `include/inkcapper.h` declares them.
 //!
 //! A slice is a pointer and a length in elements. Parameters stand in one order: rows, the loans by
-//! their numbers (marks, queue, output, flags, vertex marks, coordinates), plan or bytes, numbers, and
-//! last the place for the three values; the reader has its bytes first and its rows last. Each returns
-//! the answer's number.
+//! their numbers (marks, queue, output, flags, vertex marks, coordinates), plan or bytes, lists of numbers,
+//! numbers, and last the place for the three values; the reader has its bytes first and its rows last. Each
+//! returns the answer's number.
 
 /// Where the three values go.
 pub type Values = *mut [u64; 3];
@@ -86,6 +86,26 @@ unsafe extern "C" {
         plan: *mut u32,
         plan_len: usize,
         ld: u32,
+        values: Values,
+    ) -> u32;
+
+    pub fn inkcapper_commands(
+        rows: *mut u32,
+        rows_len: usize,
+        marks: *mut u8,
+        marks_len: usize,
+        queue: *mut u32,
+        queue_len: usize,
+        output: *mut u32,
+        output_len: usize,
+        vertex_marks: *const u8,
+        vertex_marks_len: usize,
+        coordinates: *const f64,
+        coordinates_len: usize,
+        plan: *mut u32,
+        plan_len: usize,
+        commands: *const u32,
+        commands_len: usize,
         values: Values,
     ) -> u32;
 

@@ -4,6 +4,7 @@
 //! - [`map`] has the calls on rows alone: a read gives a dart or a yes or no.
 //! - [`slices`] has one safe function for each call, on the caller's own slices.
 //! - [`Loans`] holds scratch, output and plan and grows them, for callers that hold rows alone.
+//! - [`Loans::commands`] makes a list of [`Command`]s under one map test, for callers with many of them.
 //! - [`read_image`] and [`write_image`] are for stored maps, in buffers of their size.
 //! - [`Answer`] and [`Refusal`] are what calls answer, as types; each says its number.
 //!
@@ -15,6 +16,7 @@
 //! names are left open for the final program to bring.
 
 mod answer;
+mod commands;
 pub mod ffi;
 mod image;
 mod loans;
@@ -22,5 +24,6 @@ pub mod map;
 pub mod slices;
 
 pub use answer::{Answer, Refusal};
+pub use commands::{Answers, Command};
 pub use image::{Image, read_image, write_image, write_map};
 pub use loans::{Cell, Entry, Kind, Loans, MOST_DARTS, Orbit, Sewn, Vertices};

@@ -1,6 +1,7 @@
 //! Loans that grow to what a map needs, so that a caller holds nothing but rows.
 
 use crate::answer::{Answer, Refusal};
+use crate::commands::Lists;
 use crate::slices;
 
 /// The most darts that a map may have, the null dart counted.
@@ -81,17 +82,17 @@ impl Entry {
     }
 }
 
-/// A sew or unsew that was done.
+/// A sew or unsew that was done, or a command of a list.
 #[must_use = "the plan says what the caller's own stores have to follow"]
 #[derive(Debug, Clone, Copy, PartialEq, Eq)]
 pub struct Sewn<'a> {
-    /// The dart that an unsew answers, 0 for a sew.
+    /// The dart that an unlink or unsew answers, 0 for a link or sew.
     pub dart: u32,
-    /// The plan in order.
+    /// The plan in order; links and unlinks have none.
     pub plan: &'a [Entry],
 }
 
-/// Vertex slots, for [`Loans::two_sew`] and [`write_map`](crate::write_map).
+/// Vertex slots, for [`Loans::two_sew`], [`Loans::commands`] and [`write_map`](crate::write_map).
 #[derive(Debug, Clone, Copy)]
 pub struct Vertices<'a> {
     /// Non-zero where the slot holds a point.
@@ -121,11 +122,12 @@ pub struct Vertices<'a> {
 /// ```
 #[derive(Debug, Default, Clone)]
 pub struct Loans {
-    marks: Vec<u8>,
-    queue: Vec<u32>,
+    pub(crate) marks: Vec<u8>,
+    pub(crate) queue: Vec<u32>,
     output: Vec<u32>,
-    plan: Vec<u32>,
-    entries: Vec<Entry>,
+    pub(crate) plan: Vec<u32>,
+    pub(crate) entries: Vec<Entry>,
+    pub(crate) lists: Lists,
 }
 
 /// The first `count` of what was lent. A count that is more would be a fault of the library; it is named as
@@ -145,13 +147,30 @@ impl Loans {
     }
 
     /// Grows scratch and output for these rows. Rows that are too long are left to the call's refusal.
-    fn grow(&mut self, rows: &[u32]) {
+    pub(crate) fn grow(&mut self, rows: &[u32]) {
         let n = (rows.len() / 4).min(MOST_DARTS);
         if self.marks.len() < n {
             self.marks.resize(n, 0);
             self.queue.resize(n, 0);
             self.output.resize(n, 0);
         }
+    }
+
+    /// Grows the plan to room for so many entries.
+    pub(crate) fn grow_plan(&mut self, entries: usize) {
+        if self.plan.len() < 4 * entries {
+            self.plan.resize(4 * entries, 0);
+        }
+    }
+
+    /// Reads the first `count` entries of the plan.
+    pub(crate) fn read_plan(&mut self, dart: u32, count: u64) -> Result<(), Refusal> {
+        self.entries.clear();
+        for words in written(&self.plan, dart, count, 4)?.chunks_exact(4) {
+            let fault = Refusal::Unknown { number: 0, values: [dart.into(), count, words[0].into()] };
+            self.entries.push(Entry::read(words).ok_or(fault)?);
+        }
+        Ok(())
     }
 
     /// The identifier of the cell of `d`.
@@ -220,19 +239,15 @@ impl Loans {
         let mut answer = call(rows, &mut self.marks, &mut self.queue, &mut self.plan);
         if let Answer::Refused(Refusal::PlanRoom { entries }) = answer {
             // a plan has at most one face split and three entries for each dart of a side
-            let most = 4 * (1 + 3 * (rows.len() / 4));
-            let needed = usize::try_from(entries).ok().and_then(|e| e.checked_mul(4));
-            if let Some(length) = needed.filter(|&length| length <= most && length > self.plan.len()) {
-                self.plan.resize(length, 0);
+            let most = 1 + 3 * (rows.len() / 4);
+            let needed = usize::try_from(entries).ok();
+            if let Some(needed) = needed.filter(|&needed| needed <= most && needed > self.plan.len() / 4) {
+                self.grow_plan(needed);
                 answer = call(rows, &mut self.marks, &mut self.queue, &mut self.plan);
             }
         }
         let (dart, count) = answer.done()?;
-        self.entries.clear();
-        for words in written(&self.plan, dart, count, 4)?.chunks_exact(4) {
-            let fault = Refusal::Unknown { number: 0, values: [dart.into(), count, words[0].into()] };
-            self.entries.push(Entry::read(words).ok_or(fault)?);
-        }
+        self.read_plan(dart, count)?;
         Ok(Sewn { dart, plan: &self.entries })
     }
 

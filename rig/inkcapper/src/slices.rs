@@ -160,6 +160,60 @@ pub fn two_sew(
     })
 }
 
+/// Makes the commands of a list one after another, three numbers each: operation, first dart, second dart
+/// (scope: commands). [`Command`](crate::Command) has the operations.
+///
+/// To `output` go five numbers for each command: the number of its answer, three values, and how many entries
+/// of the plan it wrote, straight behind those of the command before.
+///
+/// ```
+/// # #[cfg(not(feature = "linked"))] extern crate c_names;
+/// use inkcapper::{Answer, Refusal, slices};
+/// let (mut rows, mut marks, mut queue, mut output, mut plan) = ([0; 12], [0; 3], [0; 3], [0; 15], [0; 16]);
+/// let mut run = |list: &[u32]| {
+///     slices::commands(&mut rows, &mut marks, &mut queue, &mut output, &[0; 3], &[0.0; 9], &mut plan, list)
+/// };
+/// assert_eq!(run(&[3, 1]), Answer::Refused(Refusal::BadCommand { operation: 0 }));
+/// // a 3-link, the same again, a 3-unsew, whose second dart is not looked at
+/// assert_eq!(run(&[3, 1, 2, 3, 1, 2, 11, 1, 99]), Answer::Done { first: 0, count: 4 });
+/// assert_eq!(output, [0, 0, 0, 0, 0, 6, 3, 1, 2, 0, 0, 2, 0, 0, 4]);
+/// assert_eq!(plan, [13, 1, 2, 1, 12, 1, 2, 1, 11, 0, 2, 0, 11, 1, 0, 0]);
+/// ```
+#[allow(clippy::too_many_arguments)]
+pub fn commands(
+    rows: &mut [u32],
+    marks: &mut [u8],
+    queue: &mut [u32],
+    output: &mut [u32],
+    vertex_marks: &[u8],
+    coordinates: &[f64],
+    plan: &mut [u32],
+    commands: &[u32],
+) -> Answer {
+    // SAFETY: pointers and lengths of live slices; those written are held by nobody else.
+    ask(|values| unsafe {
+        ffi::inkcapper_commands(
+            rows.as_mut_ptr(),
+            rows.len(),
+            marks.as_mut_ptr(),
+            marks.len(),
+            queue.as_mut_ptr(),
+            queue.len(),
+            output.as_mut_ptr(),
+            output.len(),
+            vertex_marks.as_ptr(),
+            vertex_marks.len(),
+            coordinates.as_ptr(),
+            coordinates.len(),
+            plan.as_mut_ptr(),
+            plan.len(),
+            commands.as_ptr(),
+            commands.len(),
+            values,
+        )
+    })
+}
+
 macro_rules! identifiers {
     ($($(#[$doc:meta])* $name:ident, $c:ident;)*) => { $(
         $(#[$doc])*

@@ -1,6 +1,6 @@
 //! Nothing panics, whatever the arguments, and an answer always has a text.
 
-use inkcapper::{Answer, Cell, Loans, Orbit, Vertices, read_image, write_map};
+use inkcapper::{Answer, Cell, Command, Loans, Orbit, Vertices, read_image, write_map};
 
 #[cfg(not(feature = "linked"))]
 extern crate c_names;
@@ -35,7 +35,7 @@ fn nothing_panics() {
         let bytes: Vec<u8> = numbers.list(30).iter().map(|&w| w as u8).collect();
         let points: Vec<f64> = numbers.list(20).iter().map(|&w| f64::from(w) / 0.0).collect();
         let vertices = Vertices { marks: &bytes, coordinates: &points };
-        let refusal = match numbers.below(11) {
+        let refusal = match numbers.below(12) {
             0 => loans.identifier(Cell::Vertex, &rows, d).err(),
             1 => loans.identifier(Cell::Face, &rows, d).err(),
             2 => loans.orbit(Orbit::Custom(&bytes), &rows, d).err(),
@@ -46,6 +46,15 @@ fn nothing_panics() {
             7 => loans.two_unsew(&mut rows, d).err(),
             8 => loans.three_unsew(&mut rows, d).err(),
             9 => write_map(&rows, &bytes, vertices).err(),
+            10 => {
+                let list = [
+                    Command::ThreeLink { ld: d, rd: e },
+                    Command::TwoSew { ld: e, rd: d },
+                    Command::ThreeUnsew { ld: d },
+                ];
+                let answers = loans.commands(&mut rows, vertices, &list[..numbers.below(4) as usize]);
+                answers.and_then(|mut answers| answers.try_for_each(|answer| answer.map(|_| ()))).err()
+            }
             _ => read_image(&bytes).err(),
         };
         match refusal {

@@ -1,4 +1,4 @@
-//! README's Rust is what is tested here: its text is this file's, and it runs.
+//! README's Rust is what is tested here: its texts are these files', and they run.
 
 #[cfg(not(feature = "linked"))]
 extern crate c_names;
@@ -12,9 +12,18 @@ mod glue {
     }
 }
 
+mod list {
+    include!("readme/list.rs");
+
+    #[test]
+    fn it_runs() {
+        assert_eq!(main(), Ok(()));
+    }
+}
+
 #[test]
-fn readme_has_the_same_text() {
+fn readme_has_the_same_texts() {
     let readme = std::fs::read_to_string(concat!(env!("CARGO_MANIFEST_DIR"), "/../../README.md")).expect("README.md");
-    let shown = readme.split("```rust\n").nth(1).and_then(|rest| rest.split("```").next());
-    assert_eq!(shown, Some(include_str!("readme/glue.rs")));
+    let shown: Vec<&str> = readme.split("```rust\n").skip(1).filter_map(|rest| rest.split("```").next()).collect();
+    assert_eq!(shown, [include_str!("readme/glue.rs"), include_str!("readme/list.rs")]);
 }

@@ -1,12 +1,13 @@
 //! The scope (docs/SCOPE.md) written down once more: every call, plainly, from its prose.
 //!
-//! This is what a kernel is held against where the published Rust has no say: refusals 1 to 5, 11,
-//! 12 and 14, what becomes of each loan, reader and writer of images, and the report. Where the Rust
-//! has a say the two are held against each other. So this text knows nothing of the Rust's, and takes
-//! the short way everywhere: it works on a copy and puts the copy back when all went well, which makes
-//! true by its shape that a refusal changes nothing.
+//! This is what a kernel is held against where the published Rust has no say: refusals 1 to 5 and 11 to
+//! 14, what becomes of each loan, reader and writer of images, and the report. Where the Rust has a say
+//! the two are held against each other. So this text knows nothing of the Rust's, and takes the short way
+//! everywhere: it works on a copy and puts the copy back when all went well, which makes true by its shape
+//! that a refusal changes nothing.
 //!
-//! Parameters stand in the order of the C boundary: rows, loans by number, plan or bytes, numbers.
+//! Parameters stand in the order of the C boundary: rows, loans by number, plan or bytes, lists of numbers,
+//! numbers.
 //!
 //! ```
 //! // a closed triangle 1, 2, 3: rows hold beta 0, 1, 2, 3 of each dart
@@ -19,12 +20,14 @@
 //! ```
 
 mod cells;
+mod commands;
 mod image;
 mod links;
 pub mod noise;
 mod sews;
 
 pub use cells::{Cell, Orbit, identifier, list, orbit};
+pub use commands::commands;
 pub use image::{REPORT_BYTES, REPORT_DARTS, case_reports, read_image, report, write_image};
 pub use links::{
     one_link, one_unlink, three_link, three_link_core, three_unlink, three_unlink_core, two_link, two_unlink,

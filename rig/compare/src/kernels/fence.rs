@@ -12,6 +12,7 @@ pub struct Fence {
     pub vertex_marks: usize,
     pub coordinates: usize,
     pub plan: usize,
+    pub commands: usize,
     pub bytes: usize,
 }
 
@@ -35,6 +36,7 @@ impl Fence {
             vertex_marks: put(&mut loans.vertex_marks, Self::BYTE),
             coordinates: put(&mut loans.coordinates, Self::FLOAT),
             plan: put(&mut loans.plan, Self::WORD),
+            commands: put(&mut loans.commands, Self::WORD),
             bytes: put(&mut loans.bytes, Self::BYTE),
         }
     }
@@ -53,6 +55,7 @@ impl Fence {
         take(&mut loans.vertex_marks, self.vertex_marks, Self::BYTE, "vertex marks");
         take(&mut loans.coordinates, self.coordinates, Self::FLOAT, "coordinates");
         take(&mut loans.plan, self.plan, Self::WORD, "plan");
+        take(&mut loans.commands, self.commands, Self::WORD, "commands");
         take(&mut loans.bytes, self.bytes, Self::BYTE, "bytes");
     }
 }

@@ -31,18 +31,20 @@ fn on_rows(call: &Call, lent: &Fence, loans: &mut Loans) -> Option<Told> {
     Some(answer)
 }
 
-/// Sews and unsews.
+/// Sews, unsews and lists of commands.
 fn with_plan(call: &Call, lent: &Fence, loans: &mut Loans) -> Option<Told> {
-    let Loans { rows, marks, queue, vertex_marks, coordinates, plan, .. } = loans;
+    let Loans { rows, marks, queue, output, vertex_marks, coordinates, plan, commands, .. } = loans;
     let (rows, marks, queue) = (&mut rows[..lent.rows], &mut marks[..lent.marks], &mut queue[..lent.queue]);
     let (vertex_marks, coordinates) = (&vertex_marks[..lent.vertex_marks], &coordinates[..lent.coordinates]);
-    let plan = &mut plan[..lent.plan];
+    let (output, plan) = (&mut output[..lent.output], &mut plan[..lent.plan]);
+    let commands = &commands[..lent.commands];
     let answer = match *call {
         Call::OneSew { ld, rd } => slices::one_sew(rows, marks, queue, plan, ld, rd),
         Call::OneUnsew { ld } => slices::one_unsew(rows, marks, queue, plan, ld),
         Call::TwoSew { ld, rd } => slices::two_sew(rows, marks, queue, vertex_marks, coordinates, plan, ld, rd),
         Call::TwoUnsew { ld } => slices::two_unsew(rows, marks, queue, plan, ld),
         Call::ThreeUnsew { ld } => slices::three_unsew(rows, marks, queue, plan, ld),
+        Call::Commands => slices::commands(rows, marks, queue, output, vertex_marks, coordinates, plan, commands),
         _ => return None,
     };
     Some(answer)

@@ -25,15 +25,16 @@ fn on_rows(call: &Call, rows: &mut [u32]) -> Option<Answer> {
     Some(answer)
 }
 
-/// Sews and unsews.
+/// Sews, unsews and lists of commands.
 fn with_plan(call: &Call, loans: &mut Loans) -> Option<Answer> {
-    let Loans { rows, marks, queue, vertex_marks, coordinates, plan, .. } = loans;
+    let Loans { rows, marks, queue, output, vertex_marks, coordinates, plan, commands, .. } = loans;
     let answer = match *call {
         Call::OneSew { ld, rd } => model::one_sew(rows, marks, queue, plan, ld, rd),
         Call::OneUnsew { ld } => model::one_unsew(rows, marks, queue, plan, ld),
         Call::TwoSew { ld, rd } => model::two_sew(rows, marks, queue, vertex_marks, coordinates, plan, ld, rd),
         Call::TwoUnsew { ld } => model::two_unsew(rows, marks, queue, plan, ld),
         Call::ThreeUnsew { ld } => model::three_unsew(rows, marks, queue, plan, ld),
+        Call::Commands => model::commands(rows, marks, queue, output, vertex_marks, coordinates, plan, commands),
         _ => return None,
     };
     Some(answer)

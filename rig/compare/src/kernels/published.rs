@@ -1,5 +1,7 @@
 //! The published Rust's answers.
 
+use std::mem::take;
+
 use oracle::Oracle;
 
 use crate::kernel::{Answer, Call, Cell, Kernel, Loans, Orbit};
@@ -88,6 +90,36 @@ impl Published {
         Some(self.planned(sewn, loans))
     }
 
+    /// A command of a list as a single call. An operation that there is not, and darts that are none, are tested
+    /// here: the Rust has no such tests.
+    fn command(&mut self, numbers: [u32; 3], loans: &mut Loans) -> Answer {
+        let Some(call) = Call::of_command(numbers) else { return (13, [u64::from(numbers[0]), 0, 0]) };
+        let n = (loans.rows.len() / 4) as u32;
+        match call.numbers().iter().position(|d| !(1..n).contains(d)) {
+            Some(at) => (4, [at as u64 + 1, 0, 0]),
+            None => self.run(&call, loans),
+        }
+    }
+
+    /// A list of commands as its calls one after another, each lent what is left of the plan.
+    fn commands(&mut self, loans: &mut Loans) -> Answer {
+        let (mut output, mut plan) = (take(&mut loans.output), take(&mut loans.plan));
+        let commands = take(&mut loans.commands);
+        let mut written = 0;
+        for (numbers, place) in commands.chunks_exact(3).zip(output.chunks_exact_mut(5)) {
+            let rest = &mut plan[written..];
+            loans.plan.clear();
+            loans.plan.extend_from_slice(rest);
+            let (number, [a, b, c]) = self.command([numbers[0], numbers[1], numbers[2]], loans);
+            rest.copy_from_slice(&loans.plan);
+            let five = if number == 0 { [0, a, 0, 0, b] } else { [u64::from(number), a, b, c, 0] };
+            place.copy_from_slice(&five.map(|word| word as u32));
+            written += 4 * five[4] as usize;
+        }
+        (loans.output, loans.plan, loans.commands) = (output, plan, commands);
+        (0, [0, written as u64 / 4, 0])
+    }
+
     /// Identifiers, orbits and lists.
     fn on_cells(&mut self, call: &Call, loans: &mut Loans) -> Option<Answer> {
         let oracle = self.with(&loans.rows);
@@ -159,11 +191,13 @@ fn betas_and_darts(call: &Call) -> (Vec<u32>, Vec<u32>) {
 /// Whether the loans that the call has, but for the plan, are long enough for n darts.
 fn long_enough(call: &Call, loans: &Loans, n: usize) -> bool {
     let (marks, queue) = (loans.marks.len() >= n, loans.queue.len() >= n);
+    let vertices = loans.vertex_marks.len() >= n && loans.coordinates.len() >= 3 * n;
     match call {
         Call::Identifier { .. } => marks && queue,
         Call::Orbit { .. } => marks && loans.output.len() >= n,
         Call::List { .. } => marks && queue && loans.output.len() >= n && loans.flags.len() >= n,
-        Call::TwoSew { .. } => marks && queue && loans.vertex_marks.len() >= n && loans.coordinates.len() >= 3 * n,
+        Call::TwoSew { .. } => marks && queue && vertices,
+        Call::Commands => marks && queue && loans.output.len() >= loans.commands.len() / 3 * 5 && vertices,
         call if call.plans() => marks && queue,
         _ => true,
     }
@@ -174,8 +208,8 @@ impl Kernel for Published {
         "published Rust"
     }
 
-    /// It has one wherever refusals 1 to 5 and 12, which it does not have, do not come first; the map test, the
-    /// reader and the writer as calls have no counterpart in it.
+    /// It has one wherever refusals 1 to 5, 12 and 13, which it does not have, do not come first; the map test,
+    /// the reader and the writer as calls have no counterpart in it. A list of commands is its calls.
     fn has_say(&self, call: &Call, before: &Loans) -> bool {
         let n = before.rows.len() / 4;
         let sized = before.rows.len() == 4 * n && (1..=MOST_DARTS).contains(&n);
@@ -187,7 +221,9 @@ impl Kernel for Published {
         };
         let reads = matches!(call, Call::Beta { .. } | Call::IsIFree { .. } | Call::IsFree { .. });
         let (betas, darts) = betas_and_darts(call);
+        let whole = *call != Call::Commands || before.commands.len().is_multiple_of(3);
         sized
+            && whole
             && long_enough(call, before, n)
             && betas.iter().all(|&i| i < 4)
             && darts.iter().all(|&d| (least..n as u32).contains(&d))
@@ -199,6 +235,9 @@ impl Kernel for Published {
     }
 
     fn run(&mut self, call: &Call, loans: &mut Loans) -> Answer {
+        if *call == Call::Commands {
+            return self.commands(loans);
+        }
         self.on_rows(call, &mut loans.rows)
             .or_else(|| self.with_plan(call, loans))
             .or_else(|| self.on_cells(call, loans))

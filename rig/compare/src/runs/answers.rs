@@ -1,9 +1,10 @@
 //! Answers as lines, for fixed lists: name and numbers | rows | number and values | rows after | what was
-//! written (plan entries or darts).
+//! written (plan entries or darts; by a list of commands its answers and then its plan).
 
 use super::calls::{any_call, any_number, every_call};
+use super::lists::{lend, some_list};
 use crate::kernel::{Answer, Call, Kernel, Loans};
-use crate::kernels::Model;
+use crate::kernels::{Model, Published};
 use crate::maps;
 use crate::random::Random;
 
@@ -14,13 +15,16 @@ fn words(list: &[u32]) -> String {
 
 /// The line of a call; `note` stands behind its name.
 fn line(call: &Call, note: &str, before: &[u32], (number, [a, b, c]): Answer, loans: &Loans) -> String {
-    let written = match call {
-        _ if number != 0 => &[],
-        Call::Orbit { .. } | Call::List { .. } => &loans.output[..b as usize],
-        _ => &loans.plan[..4 * b as usize],
+    let (output, plan) = match call {
+        _ if number != 0 => (0, 0),
+        Call::Orbit { .. } | Call::List { .. } => (b as usize, 0),
+        Call::Commands => (loans.commands.len() / 3 * 5, 4 * b as usize),
+        _ => (0, 4 * b as usize),
     };
-    let name = [call.name().to_string() + note, words(&call.numbers())].join(" ");
-    let (before, after, written) = (words(before), words(&loans.rows), words(written));
+    let written = words(&[&loans.output[..output], &loans.plan[..plan]].concat());
+    let numbers = if *call == Call::Commands { loans.commands.clone() } else { call.numbers() };
+    let name = [call.name().to_string() + note, words(&numbers)].join(" ");
+    let (before, after) = (words(before), words(&loans.rows));
     format!("{} | {before} | {number} {a} {b} {c} | {after} | {written}", name.trim_end())
 }
 
@@ -83,5 +87,46 @@ pub fn wrong(count: usize, seed: u64, mut each: impl FnMut(String)) {
             left[number] -= 1;
             each(line(&call, "", &rows, answer, &loans));
         }
+    }
+}
+
+/// A small map, and a list of up to six commands on it; all numbers are below 256. Now and then the list is no
+/// whole commands or has none, an image was changed, or there are no rows.
+fn some_loans(random: &mut Random) -> Loans {
+    let n = 2 + random.below(7);
+    let mut loans = Loans::around(if random.percent(50) { maps::wild(random, n) } else { maps::faces(random, n) });
+    let commands = 1 + random.below(5);
+    let list = some_list(random, &loans, commands);
+    lend(&mut loans, &list);
+    match random.below(40) {
+        0 => loans.rows.clear(),
+        1 | 2 => {
+            let place = random.below(loans.rows.len());
+            loans.rows[place] = any_number(random, n) % 256;
+        }
+        3 | 4 => _ = loans.commands.pop(),
+        5 => loans.commands.clear(),
+        _ => {}
+    }
+    loans.commands.iter_mut().for_each(|number| *number %= 256);
+    loans
+}
+
+/// Lists of commands with the published Rust's answers, and with the model's where the whole list is refused.
+/// Points, and the words of plan that are lent, at most 64, are noted behind the name.
+pub fn listed(count: usize, seed: u64, mut each: impl FnMut(String)) {
+    let mut random = Random::new(seed);
+    let mut published = Published::default();
+    for _ in 0..count {
+        let mut loans = some_loans(&mut random);
+        let points = *random.pick(&[0, 0, 0, 1, 2]);
+        put_points(&mut loans, points);
+        let room = if random.percent(40) { 64 } else { random.below(20) };
+        loans.plan.resize(room, 0);
+        let before = loans.rows.clone();
+        let kernel: &mut dyn Kernel =
+            if published.has_say(&Call::Commands, &loans) { &mut published } else { &mut Model };
+        let answer = kernel.run(&Call::Commands, &mut loans);
+        each(line(&Call::Commands, &format!("@{points}/{room}"), &before, answer, &loans));
     }
 }

@@ -14,6 +14,7 @@ pub fn largest(comparison: &mut Comparison) {
         let mut loans = Loans::around(vec![0; length]);
         loans.plan.truncate(16);
         let last = (length / 4 - 1) as u32;
+        loans.commands = vec![2, 1, last, 6, last + 1, 0, 5, last, 2, 9, last, last, 10, last, 0, 4, last, 1];
         for call in [
             Call::CheckMap,
             Call::Beta { i: 3, d: last },
@@ -24,6 +25,7 @@ pub fn largest(comparison: &mut Comparison) {
             Call::Identifier { cell: Cell::Face, d: last },
             Call::Orbit { orbit: Orbit::Volume, d: last },
             Call::WriteImage,
+            Call::Commands,
         ] {
             comparison.check(&call, &loans);
         }
@@ -55,6 +57,9 @@ fn rings(comparison: &mut Comparison) {
     loans.rows[last] = half;
     comparison.check(&Call::CheckMap, &loans);
     loans.rows[last] = 0;
+    // glued, a pair of it unlinked and sewn beside, unglued from another dart
+    loans.commands = vec![3, 7, half + 9, 6, half, 0, 1, half, 1, 3, 9, half + 11, 4, half, 1, 8, 1, 0, 8, half, 1];
+    comparison.check(&Call::Commands, &loans);
     let (_, glued) = comparison.check(&Call::ThreeLink { ld: 7, rd: half + 9 }, &loans);
     loans.rows.clone_from(&glued.rows);
     for call in [

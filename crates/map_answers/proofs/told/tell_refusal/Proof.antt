@@ -137,8 +137,17 @@ numbers-requires-12 c κs = search needs
 enum-known-w-13 : tie.Need-enum-known-w-13
 enum-known-w-13 c = search needs
 
+cast-numbers-20 : tie.Need-cast-numbers-20
+cast-numbers-20 c = search needs
+
 numbers-requires-13 : tie.Need-numbers-requires-13
 numbers-requires-13 c κs = search needs
+
+enum-known-w-14 : tie.Need-enum-known-w-14
+enum-known-w-14 c = search needs
+
+numbers-requires-14 : tie.Need-numbers-requires-14
+numbers-requires-14 c κs = search needs
 
 returns : tie.Need-returns
 returns c = c .numbers .ensures ∙ sym (ap refusalOf (c .before .before .w .given .1))
@@ -178,6 +187,9 @@ returns-12 c = c .numbers12 .ensures ∙ sym (ap refusalOf (c .before .before .w
 
 returns-13 : tie.Need-returns-13
 returns-13 c = c .numbers13 .ensures ∙ sym (ap refusalOf (c .before .before .w13 .given .1))
+
+returns-14 : tie.Need-returns-14
+returns-14 c = c .numbers14 .ensures ∙ sym (ap refusalOf (c .before .before .w14 .given .1))
 
 pub tell-refusal-spec : {M : Type 1} → statement M
 tell-refusal-spec =
@@ -227,7 +239,10 @@ tell-refusal-spec =
     cast-numbers-19
     numbers-requires-12
     enum-known-w-13
+    cast-numbers-20
     numbers-requires-13
+    enum-known-w-14
+    numbers-requires-14
     returns
     returns-2
     returns-3
@@ -240,4 +255,5 @@ tell-refusal-spec =
     returns-10
     returns-11
     returns-12
-    returns-13)
+    returns-13
+    returns-14)

@@ -24,19 +24,22 @@ opp-of-requires c κs = search needs
 
 beta-at-requires-2 : tie.Need-beta-at-requires-2
 beta-at-requires-2 c κs =
-    let entry = c .before .before .before .before in
+    let back4 = c .before .before .before .before in
+    let entry = back4 in
     omega (arith, opp-lt (entry .args .i) (entry .pre .2), c .opp-of .ensures)
 
 returns-2 : tie.Need-returns-2
 returns-2 c =
-    let at-beta-at = c .before .before .before .before in
+    let back4 = c .before .before .before .before in
+    let at-beta-at = back4 in
     let entry = at-beta-at .before .before in
     breaks-astray _ _ _ _ _ _ (c .before .before .opp-of .ensures) (at-beta-at .beta-at .ensures) (c .before .beta-at2 .ensures) (omega arith)
     (omega (arith, entry .pre .3)) (c .if2 .taken)
 
 returns-3 : tie.Need-returns-3
 returns-3 c =
-    let at-beta-at = c .before .before .before .before .before in
+    let back5 = c .before .before .before .before .before in
+    let at-beta-at = back5 in
     let entry = at-beta-at .before .before in
     sym (ap (λ (b : Bool). b && eqb (at-beta-at .beta-at .result) (entry .args .d)) (le-leb 2 (entry .args .i) (c .if3 .taken)))
     ∙ breaks-led _ _ _ _ _ _ (c .before .before .before .opp-of .ensures) (entry .pre .2) (entry .pre .1) (at-beta-at .beta-at .ensures)
@@ -44,7 +47,8 @@ returns-3 c =
 
 returns-4 : tie.Need-returns-4
 returns-4 c =
-    let at-beta-at = c .before .before .before .before .before in
+    let back5 = c .before .before .before .before .before in
+    let at-beta-at = back5 in
     let entry = at-beta-at .before .before in
     sym (ap (λ (b : Bool). b && eqb (at-beta-at .beta-at .result) (entry .args .d)) (lt-leb 2 (entry .args .i) (c .if3 .left)))
     ∙ breaks-led _ _ _ _ _ _ (c .before .before .before .opp-of .ensures) (entry .pre .2) (entry .pre .1) (at-beta-at .beta-at .ensures)

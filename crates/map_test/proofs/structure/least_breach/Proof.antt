@@ -23,7 +23,8 @@ breaks-at-requires-3 c κs = search needs
 
 returns-3 : tie.Need-returns-3
 returns-3 c =
-    let at-if1 = c .before .before .before .before in
+    let back4 = c .before .before .before .before in
+    let at-if1 = back4 in
     let at-breaks-at = at-if1 .before in
     breach-2 _ _ (sym (at-breaks-at .breaks-at .ensures) ∙ at-if1 .if1 .left) (sym (c .before .before .before .breaks-at2 .ensures)
     ∙ c .before .before .if2 .left)
@@ -34,7 +35,8 @@ breaks-at-requires-4 c κs = search needs
 
 returns-4 : tie.Need-returns-4
 returns-4 c =
-    let at-if2 = c .before .before .before .before in
+    let back4 = c .before .before .before .before in
+    let at-if2 = back4 in
     let at-breaks-at2 = at-if2 .before in
     let at-if1 = at-breaks-at2 .before in
     let at-breaks-at = at-if1 .before in
@@ -43,7 +45,8 @@ returns-4 c =
 
 returns-5 : tie.Need-returns-5
 returns-5 c =
-    let at-if2 = c .before .before .before .before in
+    let back4 = c .before .before .before .before in
+    let at-if2 = back4 in
     let at-breaks-at2 = at-if2 .before in
     let at-if1 = at-breaks-at2 .before in
     let at-breaks-at = at-if1 .before in

@@ -17,18 +17,21 @@ beta-at-requires-2 c κs = omega (arith, c .before .before .before .pre .whole, 
 
 returns-2 : tie.Need-returns-2
 returns-2 c =
-    let entry = c .before .before .before .before .before in
+    let back5 = c .before .before .before .before .before in
+    let entry = back5 in
     breach-1 _ _ (keeps-null _ (entry .pre) 0 (sym (c .before .before .before .beta-at .ensures) ∙ c .before .before .if1 .left))
     (breaks-of-null _ (entry .pre) 1 (λ e. c .if2 .taken (c .before .beta-at2 .ensures ∙ e)))
 
 beta-at-requires-3 : tie.Need-beta-at-requires-3
 beta-at-requires-3 c κs =
-    let entry = c .before .before .before .before .before in
+    let back5 = c .before .before .before .before .before in
+    let entry = back5 in
     omega (arith, entry .pre .whole, entry .pre .some)
 
 returns-3 : tie.Need-returns-3
 returns-3 c =
-    let at-if1 = c .before .before .before .before in
+    let back4 = c .before .before .before .before in
+    let at-if1 = back4 in
     let at-beta-at = at-if1 .before in
     let entry = at-beta-at .before .before in
     breach-2 _ _ (keeps-null _ (entry .pre) 0 (sym (at-beta-at .beta-at .ensures) ∙ at-if1 .if1 .left))
@@ -37,12 +40,14 @@ returns-3 c =
 
 beta-at-requires-4 : tie.Need-beta-at-requires-4
 beta-at-requires-4 c κs =
-    let entry = c .before .before .before .before .before .before .before in
+    let back7 = c .before .before .before .before .before .before .before in
+    let entry = back7 in
     omega (arith, entry .pre .whole, entry .pre .some)
 
 returns-4 : tie.Need-returns-4
 returns-4 c =
-    let at-if2 = c .before .before .before .before in
+    let back4 = c .before .before .before .before in
+    let at-if2 = back4 in
     let at-beta-at2 = at-if2 .before in
     let at-if1 = at-beta-at2 .before in
     let at-beta-at = at-if1 .before in
@@ -54,7 +59,8 @@ returns-4 c =
 
 returns-5 : tie.Need-returns-5
 returns-5 c =
-    let at-if2 = c .before .before .before .before in
+    let back4 = c .before .before .before .before in
+    let at-if2 = back4 in
     let at-beta-at2 = at-if2 .before in
     let at-if1 = at-beta-at2 .before in
     let at-beta-at = at-if1 .before in

@@ -5,6 +5,9 @@ use borrow.Author.Needs.{needs}
 use Rattle.test_replay.proofs.replays.holds.Statement.{statement}
 use Rattle.test_replay.proofs.replays.holds.Tie as tie
 
+rows-before-requires : tie.Need-rows-before-requires
+rows-before-requires c κs = search needs
+
 darts-requires : tie.Need-darts-requires
 darts-requires c κs = search needs
 
@@ -39,6 +42,7 @@ pub holds-spec : {M : Type 1} → statement M
 holds-spec =
     tie.close
     (tie.spec
+    rows-before-requires
     darts-requires
     mul-m
     room-requires

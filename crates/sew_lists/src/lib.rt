@@ -1,0 +1,2 @@
+// A list of commands, made one after another on a map and clean scratch.
+pub mod lists;

@@ -1,0 +1,2 @@
+// The three unsews as calls.
+pub mod calls;

@@ -7,7 +7,7 @@ use map_betas::error::Refusal;
 use map_betas::error::is_done;
 ghost use mathlib.Core.Path.{_≡_};
 ghost use mathlib.Core.Bool.{true, false};
-ghost use Prim.Native.Nat.{_+_, _*_, _/_, _≤_, _<_};
+ghost use Prim.Native.Nat.{_*_, _/_, _<_};
 ghost use lib.ListN.{length};
 ghost use Rattle.map_betas.specs.Betas.{beta, darts};
 ghost use Rattle.map_betas.specs.Maps.{Sized, NullRow, sizeTest, breaks, breachAt, mapTest, checkMap};

@@ -4,11 +4,11 @@
 --   answered-front, answered-back   what stands before the next answer's place, and from it on
 -- Assumes nothing.
 use Prim.Native.Nat.{ℕ, suc, _+_, _*_, _≤_}
-use mathlib.Core.Path.{_≡_, refl, sym, ap, _∙_}
+use mathlib.Core.Path.{_≡_, sym, ap, _∙_}
 use mathlib.Core.List.{List, [], _∷_, _++_, append-assoc}
 use native.Mathlib.Omega.{arith}
 use lib.ListN.{length, take, drop, set, length-append, length-take, length-drop}
-use lib.Seq.{sets-eq, take-at, drop-at, drop-drop}
+use lib.Seq.{sets-eq, take-at, drop-at}
 use Rattle.map_betas.specs.declared.error.Answer.{Answer}
 use Rattle.sew_answers.specs.declared.answers.Words.{Words}
 use Rattle.sew_answers.specs.Words.{answerWidth, wordsOf, wordList, answerWords, answered}

@@ -7,7 +7,7 @@
 --   list-left       what the call leaves where its list is made, from what the code has left
 --   list-broken, list-no-map, list-all   the ways in which it ends behind the tests of size and loans
 -- Assumes nothing.
-use Prim.Native.Nat.{ℕ, _*_, _/_, _%_, _<_, _≤_}
+use Prim.Native.Nat.{ℕ, _*_, _/_, _%_, _≤_}
 use native.Mathlib.Omega.{arith}
 use mathlib.Core.Path.{_≡_, refl, sym, ap, _∙_}
 use mathlib.Core.Logic.{_≢_}
@@ -22,9 +22,9 @@ use Rattle.map_betas.specs.declared.error.Answer.the-variants.{Done, Refused}
 use Rattle.map_betas.specs.declared.error.Refusal.the-variants.{BadCommand}
 use Rattle.map_betas.specs.declared.loans.Loans.{Loans}
 use Rattle.map_betas.specs.Betas.{darts}
-use Rattle.map_betas.specs.Answers.{isDone, pass, Outcome, outcome, behind}
+use Rattle.map_betas.specs.Answers.{isDone, pass, Outcome, outcome}
 use Rattle.map_betas.specs.Maps.{Sized, WellFormed, sizeTest, mapTest}
-use Rattle.map_betas.specs.Guards.{enough, countedAs, loanTest, Lent}
+use Rattle.map_betas.specs.Guards.{enough, countedAs, Lent}
 use Rattle.map_betas.proofs.AnswerLaws.{first-done, then-done, outcome-is}
 use Rattle.map_betas.proofs.Formed.{size-done, formed-done}
 use Rattle.map_betas.proofs.MapLaws.{size-good}

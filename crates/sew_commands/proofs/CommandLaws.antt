@@ -28,7 +28,6 @@ use Rattle.map_betas.specs.Cores.{linkCore}
 use Rattle.map_betas.proofs.Always.{link-formed, link-length, unlink-formed, unlink-length}
 use Rattle.map_betas.proofs.GuardLaws.{are-darts}
 use Rattle.link_walk.proofs.Kept.{Keeps, unlink-kept}
-use Rattle.link_run.specs.Links.{linkCall, linkTested}
 use Rattle.link_run.proofs.LinkLaws.{on-map, link-on-map, link-kept, link-unmoved}
 use Rattle.sew_ground.specs.Sewn.{Sewn, Work, work, leaves, sewn}
 use Rattle.sew_ground.specs.One.{oneSewOn, oneUnsewOn}

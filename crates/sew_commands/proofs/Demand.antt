@@ -18,13 +18,13 @@ use Prim.Native.Nat.{ℕ, _+_, _*_, _/_, _%_, _≤_}
 use native.Mathlib.Omega.{arith}
 use native.Mathlib.Nat.{add-zero}
 use mathlib.Core.Path.{_≡_, refl, sym, ap, _∙_, subst}
-use mathlib.Core.Logic.{_≢_, _↔_}
+use mathlib.Core.Logic.{_↔_}
 use mathlib.Core.Bool.{Bool, true, false, cond, true≢false}
 use mathlib.Core.List.{List, [], _∷_, _++_, append-nil}
-use lib.Dec.{leb, eqb}
+use lib.Dec.{leb}
 use lib.Ieee.{Float}
 use lib.ListN.{length, take, drop, length-append, length-drop}
-use lib.Seq.{take-at, length-take-le}
+use lib.Seq.{take-at}
 use borrow.Author.Tests.{le-leb, eq-eqb, eqb-true}
 use Rattle.map_betas.specs.declared.error.Answer.{Answer}
 use Rattle.map_betas.specs.declared.error.Answer.the-variants.{Done, Refused}
@@ -32,7 +32,7 @@ use Rattle.map_betas.specs.declared.error.Refusal.the-variants.{BadCommand}
 use Rattle.map_betas.specs.Betas.{darts}
 use Rattle.map_betas.specs.Answers.{pass, isDone, andThen, Outcome, outcome, behind}
 use Rattle.map_betas.specs.Maps.{WellFormed, sizeTest, mapTest}
-use Rattle.map_betas.specs.Guards.{loanTest, Lent}
+use Rattle.map_betas.specs.Guards.{loanTest}
 use Rattle.map_betas.proofs.MapLaws.{size-good}
 use Rattle.map_betas.proofs.Formed.{map-passes}
 use Rattle.map_betas.proofs.GuardLaws.{loan-none}
@@ -43,12 +43,12 @@ use Rattle.link_walk.proofs.CallLaws.{through}
 use Rattle.link_glue.proofs.Demand.{call-says, call-undoes}
 use Rattle.map_betas.specs.Answers.{given}
 use Rattle.cell_steps.specs.Calls.{wiped, headed}
-use Rattle.cell_steps.proofs.ScratchLaws.{length-zeros, wiped-back}
+use Rattle.cell_steps.proofs.ScratchLaws.{length-zeros}
 use Rattle.sew_plan.specs.Plan.{width}
 use Rattle.sew_ground.specs.Sewn.{Sewn, leaves}
 use Rattle.sew_answers.specs.Words.{answerWidth, answerWords, countOf}
 use Rattle.sew_commands.specs.Commands.{Lending, lending, LongEnough, commandOf, onRows, called, run}
-use Rattle.sew_commands.specs.Lists.{Step, Made, before, made, Turn, filled}
+use Rattle.sew_commands.specs.Lists.{Step, Made, before, made, filled}
 use Rattle.sew_commands.specs.Calls.{CommandLoans, loansFor, commandsLent, whole, listDone, listTested, commands, Able}
 use Rattle.sew_commands.proofs.CommandLaws.{called-on-map, run-kept, call-refused}
 use Rattle.sew_commands.proofs.RoomLaws.{run-long, run-room}

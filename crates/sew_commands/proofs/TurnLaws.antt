@@ -12,7 +12,7 @@ use native.Mathlib.Nat.{add-zero}
 use mathlib.Core.Path.{_≡_, refl, sym, ap, _∙_, subst}
 use mathlib.Core.List.{List, [], _++_, append-nil}
 use lib.Ieee.{Float}
-use lib.ListN.{length, take, drop, length-append, length-take, length-drop, take-append-drop, drop-of-length-le}
+use lib.ListN.{length, take, drop, length-append, length-drop, take-append-drop, drop-of-length-le}
 use lib.Seq.{take-all, length-take-le, drop-drop}
 use borrow.Rule.Slice.PartMut.{putMid, midOf}
 use Rattle.map_betas.specs.declared.error.Answer.{Answer}

@@ -24,7 +24,7 @@ use Rattle.map_betas.specs.Guards.{commandLoans, loanTest}
 use Rattle.cell_steps.specs.Calls.{wiped}
 use Rattle.sew_answers.specs.Words.{answerWidth}
 use Rattle.sew_commands.specs.Commands.{lending, LongEnough, called}
-use Rattle.sew_commands.specs.Lists.{Made, Turn, filled, made}
+use Rattle.sew_commands.specs.Lists.{Turn, filled, made}
 
 abbrev pub CommandLoans : Type 0
 CommandLoans = List ℕ × List ℕ × List ℕ × List ℕ × List ℕ

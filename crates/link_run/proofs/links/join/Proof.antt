@@ -1,12 +1,11 @@
 -- `links::join` meets its contract: refused by the test of the darts, or run. Assumes nothing.
 use mathlib.Core.Path.{_≡_, sym, ap, _∙_}
-use mathlib.Core.Bool.{true}
 use borrow.Author.Tests.{not-true, not-false}
 use Prim.Native.Nat.{ℕ}
 use mathlib.Core.List.{List}
 use Rattle.map_betas.specs.declared.error.Answer.{Answer}
 use Rattle.map_betas.specs.Betas.{darts}
-use Rattle.map_betas.specs.Answers.{Out, isDone, given}
+use Rattle.map_betas.specs.Answers.{isDone, given}
 use Rattle.map_betas.specs.Guards.{dartTest}
 use Rattle.map_betas.proofs.AnswerLaws.{behind-refused, behind-done}
 use Rattle.map_betas.proofs.GuardLaws.{are-darts}

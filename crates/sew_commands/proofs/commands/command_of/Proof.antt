@@ -1,13 +1,5 @@
 -- `commands::command_of` meets its contract, number by number. Assumes nothing.
-use Prim.Native.Nat.{ℕ, _≤_, _<_}
-use native.Mathlib.Omega.{arith}
-use native.Mathlib.Decide.{decLt, ℕ-discrete}
-use mathlib.Core.Path.{_≡_, refl, sym, ap, _∙_}
-use mathlib.Core.Logic.{_≢_, by-cases}
-use Rattle.link_run.specs.declared.links.Link.the-variants.{OneLink, TwoLink, ThreeLink, OneUnlink, TwoUnlink, ThreeUnlink}
-use Rattle.sew_operations.specs.declared.operations.Operation.the-variants.{OneSew, OneUnsew, TwoSew, TwoUnsew, ThreeUnsew}
-use Rattle.sew_commands.specs.declared.commands.Command.{Command}
-use Rattle.sew_commands.specs.declared.commands.Command.the-variants.{Links, Sews, Unknown}
+use mathlib.Core.Path.{sym, ap}
 use Rattle.sew_commands.specs.Commands.{commandOf}
 use Rattle.sew_commands.proofs.CommandLaws.{no-command}
 use Rattle.sew_commands.proofs.commands.command_of.Statement.{statement}

@@ -1,12 +1,11 @@
 -- `lists::make_all` meets its contract: command by command, what is made so far and what the rest makes are what the list makes. Assumes nothing.
-use Prim.Native.Nat.{ℕ, _+_, _-_, _*_, _/_, _≤_}
+use Prim.Native.Nat.{_-_, _≤_}
 use native.Mathlib.Omega.{arith}
-use mathlib.Core.Path.{_≡_, refl, sym, ap, _∙_}
+use mathlib.Core.Path.{_≡_, refl, ap, _∙_}
 use lib.ListN.{length}
 use Rattle.sew_commands.specs.Commands.{run}
 use Rattle.sew_commands.specs.Lists.{turn}
 use Rattle.sew_commands.proofs.TurnLaws.{Making, making-starts, making-turn, making-ends, clean-same}
-use borrow.Author.Needs.{needs}
 use Rattle.sew_lists.proofs.lists.make_all.Statement.{statement}
 use Rattle.sew_lists.proofs.lists.make_all.Tie as tie
 

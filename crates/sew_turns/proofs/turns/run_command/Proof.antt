@@ -1,5 +1,5 @@
 -- `turns::run_command` meets its contract, by what the number stands for. Assumes nothing.
-use mathlib.Core.Path.{refl, sym, ap, _∙_}
+use mathlib.Core.Path.{refl, ap}
 use Prim.Native.Nat.{ℕ}
 use mathlib.Core.List.{List}
 use Rattle.map_betas.specs.Answers.{Outcome}

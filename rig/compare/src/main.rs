@@ -62,7 +62,8 @@ fn plan(arguments: &[String]) -> Vec<(String, Vec<u64>)> {
         return vec![(run.clone(), arguments[1..].iter().map(|word| number(word)).collect())];
     }
     let mut plan: Vec<(String, Vec<u64>)> = (0..5).map(|k| ("small".to_string(), vec![k])).collect();
-    let others = ["walks", "floats", "refusals", "largest", "images", "bytes", "writes", "lists"];
+    // the largest maps last of those that ask the published Rust: its sets stay as large as they ever were
+    let others = ["walks", "lists", "floats", "refusals", "largest", "images", "bytes", "writes"];
     plan.extend(others.map(|run| (run.to_string(), Vec::new())));
     plan
 }

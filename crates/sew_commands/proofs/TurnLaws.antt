@@ -58,17 +58,12 @@ module _ (vertices : List ℕ) (coordinates : List Float) (list rows₀ output�
 
   module _ (k written : ℕ) (rows output plan : List ℕ) (m : Making (run vertices coordinates) list rows₀ output₀ plan₀ k (turn written rows output plan))
       (more : 3 * k + 3 ≤ length list) (room : answerWidth * k + answerWidth ≤ length output) where
-    rest : List ℕ
-    rest = drop (width * written) plan
-
+    -- what the command leaves, the entries that it has written, and the plan with its part come back
     s : Sewn
     s = nth step list k rows (drop (width * written) plan)
 
     e : ℕ
     e = countOf (nth step list k rows (drop (width * written) plan) .answer)
-
-    first : List ℕ
-    first = take (width * written) plan
 
     plan₁ : List ℕ
     plan₁ = take (width * written) plan ++ nth step list k rows (drop (width * written) plan) .plan

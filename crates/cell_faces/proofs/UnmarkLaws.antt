@@ -8,23 +8,13 @@ use native.Mathlib.Omega.{arith}
 use mathlib.Core.Path.{_≡_, sym, ap, _∙_, subst}
 use mathlib.Core.Bool.{Bool, false, cond, _||_}
 use mathlib.Core.Logic.{⊎-elim}
-use mathlib.Core.List.{List, [], _∷_, _++_, List·Memᴰ·not-nil, List·Memᴰ·cases-cons, Memᴰ·cast, Memᴰ·append-left, Memᴰ·append-right}
+use mathlib.Core.List.{List, [], _∷_, _++_, Memᴰ·append-left, Memᴰ·append-right}
 use lib.Dec.{eqb}
 use lib.ListN.{length, getD, take, drop, length-drop}
 use lib.Seq.{length-take-le, take-at, drop-at, take-take, take-nil}
-use Rattle.cell_steps.specs.Search.{In, NoRep, mem}
+use Rattle.cell_steps.specs.Search.{In, mem}
 use Rattle.cell_steps.specs.Loans.{flag, Queue, Grown, Cleared}
-use Rattle.cell_steps.proofs.Lists.{bool, mem-in, mem-not}
-
--- ---- two lists with no repeats between them
-
-norep-both : (a b : List ℕ) → NoRep (a ++ b) → NoRep a × ((x : ℕ) → In x a → In x b → ⊥)
-norep-both [] b h = (tt, λ x m n. List·Memᴰ·not-nil m)
-norep-both (y ∷ a) b h =
-    let r = norep-both a b (h .1) in (
-      (λ m. h .0 (Memᴰ·append-left b m), r .0),
-      λ x m n. ⊎-elim (λ e. h .0 (Memᴰ·append-right a (Memᴰ·cast (sym e) n))) (λ i. r .1 x i n) (List·Memᴰ·cases-cons m),
-    )
+use Rattle.cell_steps.proofs.Lists.{bool, mem-in, mem-not, norep-parts}
 
 mem-left : (x : ℕ) (a b : List ℕ) → mem x b ≡ false → mem x (a ++ b) ≡ mem x a
 unfolding mem
@@ -56,7 +46,7 @@ module _ (queue : List ℕ) (known : ℕ) (new m₁ q₁ : List ℕ) (k : ℕ) (
 
   pub unmarked : (m₂ : List ℕ) → Cleared (take (k - known) (drop known q₁)) m₁ m₂ → length m₂ ≡ length m₁ → Queue m₂ q₁ known
   unmarked m₂ c e =
-      let n = norep-both old new (rw (← g .front) (g .queue .norep)) in
+      let n = norep-parts old new (rw (← g .front) (g .queue .norep)) in
       record {
         room = omega (arith, g .more, g .queue .room);
         norep = rw old-same (n .0);
@@ -67,7 +57,7 @@ module _ (queue : List ℕ) (known : ℕ) (new m₁ q₁ : List ℕ) (k : ℕ) (
             c .mark x
             ∙ ap (λ (l : List ℕ). cond (mem x l) 0 (getD m₁ x 0)) new-same
             ∙ ap (λ (v : ℕ). cond (mem x new) 0 v) (g .queue .flags x (omega arith) ∙ ap (λ (l : List ℕ). flag (mem x l)) (g .front))
-            ∙ gone x (n .1 x)
+            ∙ gone x (n .2 x)
             ∙ ap (λ (l : List ℕ). flag (mem x l)) (sym old-same);
       }
     where

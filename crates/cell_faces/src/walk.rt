@@ -1,14 +1,12 @@
 // The walk of `face_id`: from d and its beta 3 image forward, and backward where that ends on a null dart.
-use cell_scratch::scratch::clear;
-use cell_scratch::scratch::wipe_queue;
 use cell_scratch::steps::push;
 use map_betas::betas::beta_at;
 ghost use mathlib.Core.Path.{_≡_};
 ghost use Prim.Native.Nat.{_<_, _≤_};
 ghost use lib.ListN.{length, take};
 ghost use Rattle.map_betas.specs.Betas.{darts};
-ghost use Rattle.cell_steps.specs.Loans.{Queue, Grown, Zero, Scratch};
-ghost use Rattle.cell_faces.specs.Faces.{Walked, insert as insertOf, lower as lowerOf, leg as legOf, faceWalk, faceId};
+ghost use Rattle.cell_steps.specs.Loans.{Queue, Grown, Scratch};
+ghost use Rattle.cell_faces.specs.Faces.{Walked, insert as insertOf, lower as lowerOf, leg as legOf};
 
 // Where a leg stands: how many darts are marked, its two darts, and the least so far.
 pub struct Walker {
@@ -31,7 +29,7 @@ fn insert(marks: &mut [u8], queue: &mut [u32], k: usize, l: u32, r: u32) -> usiz
 }
 
 // The lesser of low and x, where x is not null.
-fn lower(low: u32, x: u32) -> u32
+pub fn lower(low: u32, x: u32) -> u32
     ensures { λ r. ⌜ r ≡ lowerOf low x ⌝ }
 {
     if x == 0 {
@@ -44,7 +42,14 @@ fn lower(low: u32, x: u32) -> u32
 }
 
 // A leg of the walk: l by beta i and r by beta j, while one of them is new.
-fn leg(rows: &[u32], marks: &mut [u8], queue: &mut [u32], i: u32, j: u32, start: Walker) -> Walker
+pub fn leg(
+    rows: &[u32],
+    marks: &mut [u8],
+    queue: &mut [u32],
+    i: u32,
+    j: u32,
+    start: Walker,
+) -> Walker
     requires { ⌜ Scratch (now rows) (now marks) (now queue) × (i < 4) × (j < 4) × (start .l < darts (now rows)) × (start .r < darts (now rows))
         × Queue (now marks) (now queue) (start .k) ⌝ }
     ensures { λ r. ⌜ Walked (legOf (now (rows .entry)) i j (darts (now (rows .entry)))
@@ -66,51 +71,4 @@ fn leg(rows: &[u32], marks: &mut [u8], queue: &mut [u32], i: u32, j: u32, start:
         low = lower(low, l);
         low = lower(low, r);
     }
-}
-
-// Both legs of d, with what stands in the queue's first `known` places marked before.
-pub fn walk(rows: &[u32], marks: &mut [u8], queue: &mut [u32], known: usize, d: u32) -> Walker
-    requires { ⌜ Scratch (now rows) (now marks) (now queue) × (d < darts (now rows)) × Queue (now marks) (now queue) known ⌝ }
-    ensures { λ r. ⌜ Walked (faceWalk (now (rows .entry)) (take known (now (queue .entry))) d) (now (queue .entry)) known
-        (now (marks .exit)) (now (queue .exit)) (r .k) (r .l) (r .r) (r .low) ⌝ }
-{
-    let b = beta_at(rows, 3, d);
-    let low = lower(d, b);
-    let start = Walker {
-        k: known,
-        l: d,
-        r: b,
-        low,
-    };
-    let one = leg(rows, marks, queue, 1, 0, start);
-    let l = one.l;
-    let r = one.r;
-    if l != 0 {
-        if r != 0 {
-            return one;
-        }
-    }
-    let bl = beta_at(rows, 0, d);
-    let br = beta_at(rows, 1, b);
-    let k = one.k;
-    let least = one.low;
-    let again = Walker {
-        k,
-        l: bl,
-        r: br,
-        low: least,
-    };
-    leg(rows, marks, queue, 0, 1, again)
-}
-
-// The face identifier of d. Marks and queue are 0 before and after.
-pub fn face_core(rows: &[u32], marks: &mut [u8], queue: &mut [u32], d: u32) -> u32
-    requires { ⌜ Scratch (now rows) (now marks) (now queue) × (d < darts (now rows)) × Zero (now marks) × Zero (now queue) ⌝ }
-    ensures { λ r. ⌜ (now (marks .exit) ≡ now (marks .entry)) × (now (queue .exit) ≡ now (queue .entry)) × (r ≡ faceId (now (rows .entry)) d) ⌝ }
-{
-    let w = walk(rows, marks, queue, 0, d);
-    let k = w.k;
-    clear(marks, queue, k);
-    wipe_queue(queue, k);
-    w.low
 }

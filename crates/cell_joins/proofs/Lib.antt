@@ -2,8 +2,8 @@
 --   PushLaws      a push adds nothing, or its dart
 --   WidenLaws     a closed list, widened by the search from one dart more
 --   VolumeLaws    a volume by beta 1 and beta 2 alone
---   ArmLaws       a closed list, widened by beta 2 and beta 3 in turn
+--   EdgeLaws      a closed list, widened by the walk of an edge
 pub mod PushLaws
 pub mod WidenLaws
 pub mod VolumeLaws
-pub mod ArmLaws
+pub mod EdgeLaws

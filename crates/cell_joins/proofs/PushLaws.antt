@@ -3,21 +3,22 @@
 --   Enters   it is neither, and now the queue's last
 --   pushed   one of the two
 --   grown-there  what was there is there
---   unmarked-real   where the null dart is there, a dart that has no mark is not null
+--   absent-unmarked, unmarked-absent   a dart has no mark exactly where it is not there
+--   push-last, push-adds   a push of such a dart
 --   grown-both   two growths of the queue, one after the other
 -- Assumes nothing.
 use Prim.Native.Nat.{ℕ, _+_, _≤_, _<_}
 use native.Mathlib.Nat.{le-trans}
 use native.Mathlib.Omega.{arith}
-use mathlib.Core.Path.{_≡_, sym, ap, _∙_}
+use mathlib.Core.Path.{_≡_, sym, ap, _∙_, subst}
 use mathlib.Core.Logic.{_⊎_, inl, inr}
 use mathlib.Core.List.{List, [], _∷_, _++_, Memᴰ·cast}
-use lib.ListN.{length, getD, take, length-append}
-use lib.Seq.{length-take-le}
+use lib.ListN.{length, getD, take, set, length-append}
+use lib.Seq.{length-take-le, drop-set-lt}
 use Rattle.cell_steps.specs.Search.{In, mem, add}
-use Rattle.cell_steps.specs.Loans.{Queue, Grown}
-use Rattle.cell_steps.proofs.Lists.{not-mem}
-use Rattle.cell_steps.proofs.QueueLaws.{flag-zero}
+use Rattle.cell_steps.specs.Loans.{flag, Queue, Grown}
+use Rattle.cell_steps.proofs.Lists.{not-mem, mem-not}
+use Rattle.cell_steps.proofs.QueueLaws.{flag-zero, front, push-queue, add-new}
 use Rattle.cell_steps.proofs.SearchLaws.{Added, null, old, new, added, added-ext, ext-in}
 use Rattle.cell_steps.proofs.TurnLaws.{drop-more}
 
@@ -66,7 +67,31 @@ pub grown-there : (queue : List ℕ) (k x : ℕ) (marks′ queue′ : List ℕ) 
     In y (take k queue) → In y (take r queue′)
 grown-there queue k x marks′ queue′ r y g m = rw (g .front) (ext-in (added-ext (added (take k queue) x)) m)
 
--- where the null dart is in the queue, a dart that has no mark is not null
-pub unmarked-real : (marks queue : List ℕ) (k x : ℕ) → Queue marks queue k → x < length marks → In 0 (take k queue) → getD marks x 0 ≡ 0 → x ≡ 0 → ⊥
-unmarked-real marks queue k x q h m e z =
-    not-mem x (take k queue) (flag-zero (mem x (take k queue)) (sym (q .flags x h) ∙ e)) (Memᴰ·cast z m)
+module _ (marks queue : List ℕ) (k x : ℕ) (q : Queue marks queue k) (h : x < length marks) where
+  -- a dart that is not there has no mark
+  pub absent-unmarked : (In x (take k queue) → ⊥) → getD marks x 0 ≡ 0
+  absent-unmarked n = q .flags x h ∙ ap flag (mem-not x (take k queue) n)
+
+  -- and one that has none is not there
+  pub unmarked-absent : getD marks x 0 ≡ 0 → In x (take k queue) → ⊥
+  unmarked-absent e = not-mem x (take k queue) (flag-zero (mem x (take k queue)) (sym (q .flags x h) ∙ e))
+
+  pub push-last : length marks ≤ length queue → (In x (take k queue) → ⊥) →
+      Grown queue k (take k queue ++ (x ∷ [])) (set marks x 1) (set queue k x) (k + 1)
+  push-last w n =
+      let e = absent-unmarked n in
+      record {
+        front = front marks queue k x q h e w;
+        back = drop-set-lt (k + 1) queue k x (omega arith);
+        more = omega arith;
+        queue = push-queue marks queue k x q h e w;
+      }
+
+-- where the null dart is there, a push is what `add` adds
+pub push-adds : (marks queue : List ℕ) (k x : ℕ) → Queue marks queue k → x < length marks → In 0 (take k queue) → getD marks x 0 ≡ 0 →
+    (marks′ queue′ : List ℕ) (r : ℕ) → Grown queue k (take k queue ++ (x ∷ [])) marks′ queue′ r → Grown queue k (add (take k queue) x) marks′ queue′ r
+push-adds marks queue k x q h z e marks′ queue′ r g =
+    let n = unmarked-absent marks queue k x q h e in
+    subst (λ (l : List ℕ). Grown queue k l marks′ queue′ r)
+    (sym (add-new (take k queue) x (λ o. n (Memᴰ·cast o z)) (mem-not x (take k queue) n)))
+    g

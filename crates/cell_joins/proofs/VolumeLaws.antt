@@ -1,6 +1,5 @@
 -- A volume by beta 1 and beta 2 alone: where every beta 1 image leads on, beta 0 leads nowhere else.
 --   images, onto       a map of a finite list into itself that can be undone is onto
---   norep-parts        the two parts of a list with no repeats
 --   linear-reach       what beta 1 and beta 2 reach is of the volume
 --   linear-seeded      so the search goes on from it by all the steps of a volume
 --   linear-spread      or has nowhere to go on to
@@ -13,7 +12,7 @@ use native.Mathlib.Omega.{arith}
 use mathlib.Core.Path.{_≡_, refl, sym, ap, _∙_, subst}
 use mathlib.Core.Bool.{Bool, true, false, _||_, true≢false}
 use mathlib.Core.Logic.{_⊎_, inl, inr, ⊎-elim}
-use mathlib.Core.List.{List, [], _∷_, _++_, List·Memᴰ·head, List·Memᴰ·tail}
+use mathlib.Core.List.{List, [], _∷_, List·Memᴰ·head, List·Memᴰ·tail}
 use mathlib.Core.List.{List·Memᴰ·not-nil, List·Memᴰ·cases-cons, List·Memᴰ·eq-of-singleton, List·Memᴰ·append-cases, Memᴰ·append-right, Memᴰ·cast}
 use mathlib.Mathlib.Logic.Relation.{ReflTransGenᴰ·refl, ReflTransGenᴰ·tail}
 use lib.Dec.{eqb, lit<}
@@ -25,7 +24,7 @@ use Rattle.map_betas.specs.Maps.{WellFormed}
 use Rattle.cell_steps.specs.Steps.{image, volume, volumeLinear}
 use Rattle.cell_steps.specs.Search.{In, NoRep, mem, add, visit, Reach}
 use Rattle.cell_steps.specs.Loans.{Grown}
-use Rattle.cell_steps.proofs.Lists.{bool, mem-in, not-mem, norep-le, at-in}
+use Rattle.cell_steps.proofs.Lists.{bool, mem-in, not-mem, norep-le, norep-parts, at-in}
 use Rattle.cell_steps.proofs.SearchLaws.{Ext, ext-in, ext-at, visit-ext}
 use Rattle.cell_steps.proofs.OrbitLaws.{Has}
 use Rattle.cell_joins.specs.Joins.{Whole, ended, Onward}
@@ -71,12 +70,6 @@ module _ (f g : ℕ → ℕ) where
       absurd (omega (arith, norep-le (y ∷ images f l) l (not-mem y (images f l) t, images-norep l n u) all, images-length l)))
       (bool (mem y (images f l)))
 
-norep-parts : (l k : List ℕ) → NoRep (l ++ k) → NoRep k × ((x : ℕ) → In x l → In x k → ⊥)
-norep-parts [] k n = (n, λ x m. absurd (List·Memᴰ·not-nil m))
-norep-parts (y ∷ l) k n =
-    let r = norep-parts l k (n .1) in
-    (r .0, λ x m i. ⊎-elim (λ e. n .0 (Memᴰ·append-right l (Memᴰ·cast (sym e) i))) (λ j. r .1 x j i) (List·Memᴰ·cases-cons m))
-
 -- ---- beta 1 and beta 2 are steps of a volume
 
 linear-step : {s : ℕ} → In s volumeLinear → In s volume
@@ -105,7 +98,7 @@ module _ (rows : List ℕ) (w : WellFormed rows) (d : ℕ) (l m : List ℕ) (v :
     abbrev new : List ℕ
     new = v .seeded .starts .rest
 
-    parts : NoRep new × ((x : ℕ) → In x l → In x new → ⊥)
+    parts : NoRep l × NoRep new × ((x : ℕ) → In x l → In x new → ⊥)
     parts = norep-parts l new (subst NoRep (v .seeded .starts .is) (v .seeded .norep))
 
     whole : {x : ℕ} → In x new → In x m
@@ -140,7 +133,7 @@ module _ (rows : List ℕ) (w : WellFormed rows) (d : ℕ) (l m : List ℕ) (v :
         (λ o.
         ⊎-elim
         (λ z. absurd (new-real x i (sym (back-1 x i) ∙ z)))
-        (λ q. absurd (parts .1 x (Memᴰ·cast (sym (back-1 x i)) q) i))
+        (λ q. absurd (parts .2 x (Memᴰ·cast (sym (back-1 x i)) q) i))
         (c .image-in (beta rows 1 x) o 0 (List·Memᴰ·tail (List·Memᴰ·head refl))))
         (λ n. n)
         (part (beta rows 1 x) k))
@@ -158,7 +151,7 @@ module _ (rows : List ℕ) (w : WellFormed rows) (d : ℕ) (l m : List ℕ) (v :
         ⊎-elim
         (λ e.
         subst (λ (j : ℕ). (image rows j x ≡ 0) ⊎ In (image rows j x) m) (sym e)
-        (inr (whole (onto (beta rows 1) (beta rows 0) new (parts .0) into back-1 x n))))
+        (inr (whole (onto (beta rows 1) (beta rows 0) new (parts .1) into back-1 x n))))
         (λ k.
         subst (λ (j : ℕ). (image rows j x ≡ 0) ⊎ In (image rows j x) m) (sym (List·Memᴰ·eq-of-singleton k))
         (v .closed x i 2 (List·Memᴰ·tail (List·Memᴰ·head refl))))

@@ -4,18 +4,16 @@
 --   Grew                        what the queue holds after d: the same where d was there, and else the cell of d too
 --   ended rows l from f         one of the f darts of l from the place `from` on has no beta 1 image
 --   Onward rows from l          each dart of l from the place `from` on has one
---   arm f rows i x l            l, and behind it what beta 2 and beta 3 in turn lead to from x, beta i first, up to a dart that is there: at most f darts
---   Arm rows i d l l′           l′ holds l and what beta 2 and beta 3 in turn lead to from d, beta i first, and nothing else
 use Prim.Native.Nat.{ℕ, zero, suc, _+_, _-_, _≤_, _<_}
 use mathlib.Core.Path.{_≡_}
 use mathlib.Core.Logic.{_⊎_}
-use mathlib.Core.Bool.{Bool, false, cond, _||_}
-use mathlib.Core.List.{List, [], _∷_, _++_}
+use mathlib.Core.Bool.{Bool, false, _||_}
+use mathlib.Core.List.{List}
 use lib.Dec.{eqb}
 use lib.ListN.{length, getD, take, drop}
 use Rattle.map_betas.specs.Betas.{beta}
-use Rattle.cell_steps.specs.Steps.{image, edge}
-use Rattle.cell_steps.specs.Search.{In, mem, Reach}
+use Rattle.cell_steps.specs.Steps.{image}
+use Rattle.cell_steps.specs.Search.{In, Reach}
 use Rattle.cell_steps.specs.Loans.{Queue}
 
 pub record Whole (rows steps l : List ℕ) : Type 0 where
@@ -39,16 +37,3 @@ ended rows l from (suc f) = eqb (beta rows 1 (getD l (from + f) 0)) 0 || ended r
 
 pub record Onward (rows : List ℕ) (from : ℕ) (l : List ℕ) : Type 0 where
   pub leads : (i : ℕ) → from ≤ i → i < length l → beta rows 1 (getD l i 0) ≡ 0 → ⊥
-
--- the null dart stands in l, so that an arm ends there too; `proofs/ArmLaws.antt` has that as many darts as are not in l are enough
-unfoldable pub arm : ℕ → List ℕ → ℕ → ℕ → List ℕ → List ℕ
-arm zero rows i x l = l
-arm (suc f) rows i x l =
-    let y = beta rows i x in
-    cond (mem y l) l (arm f rows (5 - i) y (l ++ (y ∷ [])))
-
--- each image of a dart of l′ is null or in l′, but for the darts that were in l before, where only the step by beta i from d was followed
-pub record Arm (rows : List ℕ) (i d : ℕ) (l l′ : List ℕ) : Type 0 where
-  pub only : (x : ℕ) → In x l′ → In x l ⊎ Reach rows edge d x
-  pub old : (x : ℕ) → In x l → In x l′
-  pub next : (x j : ℕ) → In x l′ → In j edge → (In x l × ((x ≡ d) × (j ≡ i) → ⊥)) ⊎ ((beta rows j x ≡ 0) ⊎ In (beta rows j x) l′)

@@ -1,11 +1,8 @@
 // Cell lists of a class whose steps lead back: each orbit is visited once, so that a list takes time linear in the darts. Ports `iter_vertices`, `iter_edges`
 // and `iter_volumes` of dim3/basic_ops.rs.
-use cell_joins::edges::alternate;
-use cell_joins::meet::meet;
-use cell_joins::volumes::flood_forward;
+use cell_growth::grow;
 use cell_scratch::scratch::wipe_marks;
 use cell_scratch::scratch::wipe_queue;
-use cell_search::search::flood;
 use cell_steps::cells::Class;
 use cell_steps::policy::OrbitPolicy;
 use cell_steps::policy::policy_of;
@@ -13,51 +10,14 @@ use cell_steps::policy::steps_of;
 ghost use mathlib.Core.Path.{_≡_};
 ghost use mathlib.Core.Bool.{_&&_};
 ghost use lib.Dec.{eqb};
-ghost use Prim.Native.Nat.{_-_, _<_, _≤_};
-ghost use lib.ListN.{length, take};
+ghost use Prim.Native.Nat.{_<_, _≤_};
+ghost use lib.ListN.{length};
 ghost use Rattle.map_betas.specs.Betas.{darts};
 ghost use Rattle.cell_steps.specs.Steps.{stepsBy, cellSteps};
-ghost use Rattle.cell_steps.specs.Search.{In, Symmetric};
-ghost use Rattle.cell_steps.specs.Loans.{AreSteps, Scratch, Queue, Zero, Listed};
+ghost use Rattle.cell_steps.specs.Search.{Symmetric};
+ghost use Rattle.cell_steps.specs.Loans.{AreSteps, Scratch, Zero, Listed};
 ghost use Rattle.cell_steps.specs.Calls.{wiped};
 ghost use Rattle.cell_lists.specs.CellLists.{cellList, Put};
-ghost use Rattle.cell_joins.specs.Joins.{Whole, Grew};
-
-// Puts d into the queue, unless it is there, with all that the steps reach from it. The order is of no matter to a list, so that an edge is followed and a
-// volume searched by fewer steps.
-fn grow(
-    rows: &[u32],
-    policy: OrbitPolicy,
-    steps: &[u8],
-    marks: &mut [u8],
-    queue: &mut [u32],
-    found: usize,
-    d: u32,
-) -> usize
-    requires { ⌜ Scratch (now rows) (now marks) (now queue) × Queue (now marks) (now queue) found × (0 < d) × (d < darts (now rows))
-        × (stepsBy policy (now steps) ≡ now steps) × Whole (now rows) (now steps) (take found (now queue)) × In 0 (take found (now queue))
-        × AreSteps (now steps) ⌝ }
-    ensures { λ r. ⌜ Grew (now (rows .entry)) (now (steps .entry)) d (now (queue .entry)) found (now (marks .exit)) (now (queue .exit)) r ⌝ }
-{
-    let k = meet(marks, queue, found, d);
-    if k == found {
-        return found;
-    }
-    match policy {
-        OrbitPolicy::Edge => {
-            let a = alternate(rows, marks, queue, k, d, 2);
-            alternate(rows, marks, queue, a, d, 3)
-        }
-        OrbitPolicy::Volume => {
-            let t = flood_forward(rows, marks, queue, found, k);
-            if t.ends {
-                return flood(rows, policy, steps, marks, queue, found, t.count);
-            }
-            t.count
-        }
-        _ => flood(rows, policy, steps, marks, queue, found, k),
-    }
-}
 
 // Puts x behind the first count places, where it is a cell's own and not unused.
 pub fn put_own(output: &mut [u32], count: usize, x: u32, own: bool, flag: u8) -> usize

@@ -1,6 +1,6 @@
 // The core of the identifiers: by class, the least dart of the orbit, or the face identifier as the Rust walks it.
-use cell_faces::walk::face_core;
-use cell_orbits::core::name_core;
+use cell_cores::core::name_core;
+use cell_face_walks::face::face_core;
 use cell_steps::cells::Class;
 ghost use mathlib.Core.Path.{_≡_};
 ghost use Prim.Native.Nat.{_<_};

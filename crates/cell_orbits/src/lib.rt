@@ -1,3 +1,2 @@
-// Orbits: the cores, an orbit as a list and its least dart with its count, and the calls.
-pub mod core;
+// The orbit calls.
 pub mod orbits;

@@ -1,5 +1,5 @@
 // The calls: an orbit by its policy, and by a list of betas. Ports `orbit_tx` of dim3/orbits.rs.
-use crate::core::orbit_core;
+use cell_cores::core::orbit_core;
 use cell_scratch::scratch::wipe_marks;
 use cell_steps::policy::OrbitPolicy;
 use cell_steps::policy::steps_of;

@@ -3,13 +3,15 @@
 --   mem-in, in-mem, not-mem, mem-not  the test of membership against the fact
 --   in-at, at-in                      membership by place
 --   norep-snoc, norep-le              no repeats: one number more; no longer than a list that has all of its numbers
+--   norep-parts, norep-join           the two parts of a list with no repeats; two such lists, one behind the other
 --   pigeonhole                        at most n different numbers are below n
 -- Assumes nothing.
 use mathlib.Core.Path.{_≡_, refl, sym, ap, _∙_, subst}
 use mathlib.Core.Bool.{Bool, true, false, _||_, or-true, false≢true}
 use mathlib.Core.Logic.{_⊎_, inl, inr, ⊎-elim, _≢_}
 use mathlib.Core.List.{List, [], _∷_, _++_, List·Memᴰ·head}
-use mathlib.Core.List.{List·Memᴰ·tail, List·Memᴰ·not-nil, List·Memᴰ·cases-cons, Memᴰ·cast, List·Memᴰ·append-cases, List·Memᴰ·eq-of-singleton}
+use mathlib.Core.List.{List·Memᴰ·tail, List·Memᴰ·not-nil, List·Memᴰ·cases-cons, List·Memᴰ·append-cases, List·Memᴰ·eq-of-singleton}
+use mathlib.Core.List.{Memᴰ·cast, Memᴰ·append-left, Memᴰ·append-right}
 use Prim.Native.Nat.{ℕ, zero, suc, _+_, _≤_, _<_, zero-le, suc-le-suc}
 use native.Mathlib.Nat.{not-suc-le-zero, le-of-suc-le-suc, eq-or-lt-of-le}
 use native.Mathlib.Omega.{arith}
@@ -63,6 +65,22 @@ norep-snoc [] x h n = (List·Memᴰ·not-nil, tt)
 norep-snoc (y ∷ l) x h n = (
   λ m. ⊎-elim (h .0) (λ m′. n (List·Memᴰ·head (sym (List·Memᴰ·eq-of-singleton m′)))) (List·Memᴰ·append-cases l m),
   norep-snoc l x (h .1) (λ m. n (List·Memᴰ·tail m)),
+)
+
+pub norep-parts : (a b : List ℕ) → NoRep (a ++ b) → NoRep a × NoRep b × ((x : ℕ) → In x a → In x b → ⊥)
+norep-parts [] b h = (tt, h, λ x m. absurd (List·Memᴰ·not-nil m))
+norep-parts (y ∷ a) b h =
+    let r = norep-parts a b (h .1) in (
+      (λ m. h .0 (Memᴰ·append-left b m), r .0),
+      r .1,
+      λ x m n. ⊎-elim (λ e. h .0 (Memᴰ·append-right a (Memᴰ·cast (sym e) n))) (λ i. r .2 x i n) (List·Memᴰ·cases-cons m),
+    )
+
+pub norep-join : (a b : List ℕ) → NoRep a → NoRep b → ((x : ℕ) → In x a → In x b → ⊥) → NoRep (a ++ b)
+norep-join [] b h k n = k
+norep-join (y ∷ a) b h k n = (
+  λ m. ⊎-elim (h .0) (n y (List·Memᴰ·head refl)) (List·Memᴰ·append-cases a m),
+  norep-join a b (h .1) k (λ x m. n x (List·Memᴰ·tail m)),
 )
 
 -- ---- a list with no repeats is no longer than one that has all of its members

@@ -1,4 +1,2 @@
-// The stored image, form 1: where its blocks stand, and the tests of its header, flags and vertex records.
-pub mod blocks;
+// The stored image, form 1: its definitions, and where its blocks stand.
 pub mod form;
-pub mod header;

@@ -1,17 +1,17 @@
 // The reader: all tests first, so that a refusal writes nothing; then the four loans.
+use image_checks::blocks::flags_test;
+use image_checks::blocks::vertices_test;
 use image_fill::clear_coordinates;
 use image_fill::clear_marks;
 use image_fill::copy_bytes;
 use image_fill::copy_words;
 use image_fill::put_records;
-use image_form::blocks::flags_test;
-use image_form::blocks::vertices_test;
 use image_form::form::DARTS_AT;
 use image_form::form::ROW_OFFSET;
 use image_form::form::VERTICES_AT;
 use image_form::form::flag_offset;
 use image_form::form::vertex_offset;
-use image_form::header::header_test;
+use image_header::header::header_test;
 use image_map::map_test;
 use image_words::word_at;
 use map_betas::error::Answer;

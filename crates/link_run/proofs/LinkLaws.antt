@@ -17,14 +17,11 @@ use lib.ListN.{length}
 use Rattle.map_betas.specs.declared.error.Answer.{Answer}
 use Rattle.map_betas.specs.declared.error.Answer.the-variants.{Done, Refused}
 use Rattle.map_betas.specs.declared.error.Refusal.the-variants.{NonFreeBase, NonFreeImage, AlreadyFree, AsymmetricalFaces}
-use Rattle.map_betas.specs.declared.loans.Loans.{Loans}
 use Rattle.map_betas.specs.Betas.{beta, darts, opp, put, cut}
-use Rattle.map_betas.specs.Answers.{Out, out, pass, isDone, andThen, given, behind}
-use Rattle.map_betas.specs.Maps.{WellFormed, sizeTest, mapTest}
-use Rattle.map_betas.specs.Guards.{guardOf, noLoans, loanTest, dartTest, Lent}
-use Rattle.map_betas.proofs.MapLaws.{size-good}
-use Rattle.map_betas.proofs.Formed.{map-passes}
-use Rattle.map_betas.proofs.GuardLaws.{loan-none}
+use Rattle.map_betas.specs.Answers.{Out, out, pass, isDone, given, behind}
+use Rattle.map_betas.specs.Maps.{WellFormed}
+use Rattle.map_betas.specs.Guards.{guardOf, noLoans, Lent}
+use Rattle.map_betas.proofs.Guarded.{on-map}
 use Rattle.map_betas.specs.Cores.{linkCore, unlinkCore}
 use Rattle.link_walk.specs.Walk.{stepOf, LegOut, legOut, legAt, walk}
 use Rattle.link_walk.specs.Three.{legOn, legBack, lastLeg, afterLeg, afterCore, threeLinkOn, threeUnlinkOn}
@@ -45,17 +42,6 @@ link-call OneUnlink rows ld rd = refl
 link-call TwoUnlink rows ld rd = refl
 link-call ThreeUnlink rows ld rd = refl
 
--- the guard of a map whose loans are long enough is the test of the darts
-pub on-map : (rows : List ℕ) (loans : Loans) (a b : ℕ) → WellFormed rows → Lent (darts rows) loans →
-    guardOf rows loans 1 a b ≡ dartTest (darts rows) 1 a b
-unfolding guardOf
-on-map rows loans a b w l =
-    let size : sizeTest rows ≡ pass = simp (size-good rows (w .sized)) in
-    let long : loanTest (darts rows) loans ≡ pass =
-    sym (loan-none (darts rows) loans (l .marks) (l .queue) (l .output) (l .flags) (l .vertices) (l .coordinates)) in
-    let map : mapTest rows ≡ pass = map-passes rows w in
-    λ s. andThen (size s) (andThen (long s) (andThen (map s) (dartTest (darts rows) 1 a b)))
-
 pub no-loans-lent : (rows : List ℕ) → WellFormed rows → Lent (darts rows) noLoans
 no-loans-lent rows w =
     let few = w .sized .few in
@@ -65,7 +51,7 @@ pub link-on-map : (l : Link) (rows : List ℕ) (ld rd : ℕ) → WellFormed rows
 unfolding linkTested
 link-on-map l rows ld rd w =
     link-call l rows ld rd
-    ∙ ap (λ (g : Answer). behind g rows (given (linkOn l rows ld rd))) (on-map rows noLoans ld (linkSecond l ld rd) w (no-loans-lent rows w))
+    ∙ ap (λ (g : Answer). behind g rows (given (linkOn l rows ld rd))) (on-map rows noLoans 1 ld (linkSecond l ld rd) w (no-loans-lent rows w))
 
 pub link-kept : (l : Link) (rows : List ℕ) (ld rd : ℕ) → WellFormed rows → Keeps rows (linkCall l rows ld rd .loans)
 link-kept OneLink rows ld rd w = bare-link-kept rows 1 ld rd (omega arith) (omega arith) w

@@ -1,4 +1,5 @@
 -- Where the tests of a call pass, and what the map test names where it does not.
+--   on-map        on a map with loans that are long enough the darts alone are tested
 --   guard-iff     the guard passes exactly where rows, loans and darts are as they have to be
 --   breach-first  the least beta of a dart whose image breaks a rule: it does, and those before it do not
 --   first-break   refusal 3 names the least dart, and then the least beta, whose image breaks a rule
@@ -18,28 +19,33 @@ use Rattle.map_betas.specs.declared.error.Refusal.the-variants.{NotAMap}
 use Rattle.map_betas.specs.declared.loans.Loans.{Loans}
 use Rattle.map_betas.specs.Betas.{darts}
 use Rattle.map_betas.specs.Answers.{pass, isDone, andThen, tellOf}
-use Rattle.map_betas.specs.Maps.{sizeTest, breaks, breachAt, firstBreach, mapTest}
-use Rattle.map_betas.specs.Guards.{loanTest, dartTest, guardOf, Ready}
+use Rattle.map_betas.specs.Maps.{WellFormed, sizeTest, breaks, breachAt, firstBreach, mapTest}
+use Rattle.map_betas.specs.Guards.{loanTest, dartTest, guardOf, Lent, Ready}
 use Rattle.map_betas.proofs.MapLaws.{size-good, breach-clean}
 use Rattle.map_betas.proofs.Formed.{map-passes}
 use Rattle.map_betas.proofs.GuardLaws.{loan-none, dart-good, dart-both, ready}
 
 -- ---- the guard
 
-pub guard-iff : (rows : List ℕ) (loans : Loans) (least a b : ℕ) → (guardOf rows loans least a b ≡ pass) ↔ Ready rows loans least a b
+-- the guard of a map whose loans are long enough is the test of the darts
+pub on-map : (rows : List ℕ) (loans : Loans) (least a b : ℕ) → WellFormed rows → Lent (darts rows) loans →
+    guardOf rows loans least a b ≡ dartTest (darts rows) least a b
 unfolding guardOf
+on-map rows loans least a b w l =
+    let size : sizeTest rows ≡ pass = simp (size-good rows (w .sized)) in
+    let long : loanTest (darts rows) loans ≡ pass =
+    sym (loan-none (darts rows) loans (l .marks) (l .queue) (l .output) (l .flags) (l .vertices) (l .coordinates)) in
+    let map : mapTest rows ≡ pass = map-passes rows w in
+    λ s. andThen (size s) (andThen (long s) (andThen (map s) (dartTest (darts rows) least a b)))
+
+pub guard-iff : (rows : List ℕ) (loans : Loans) (least a b : ℕ) → (guardOf rows loans least a b ≡ pass) ↔ Ready rows loans least a b
 guard-iff rows loans least a b = ((λ e. ready rows loans least a b (ap isDone e)), passes)
   where
     passes : Ready rows loans least a b → guardOf rows loans least a b ≡ pass
     passes r =
         let n : ℕ = darts rows in
-        let l = r .lent in
-        let size : sizeTest rows ≡ pass = simp (size-good rows (r .formed .sized)) in
-        let long : loanTest n loans ≡ pass = sym (loan-none n loans (l .marks) (l .queue) (l .output) (l .flags) (l .vertices) (l .coordinates)) in
-        let map : mapTest rows ≡ pass = map-passes rows (r .formed) in
-        let real : dartTest n least a b ≡ pass =
-        sym (dart-both n least a b (dart-good n least a (r .left .allowed) (r .left .below)) (dart-good n least b (r .right .allowed) (r .right .below))) in
-        λ s. andThen (size s) (andThen (long s) (andThen (map s) (real s)))
+        on-map rows loans least a b (r .formed) (r .lent)
+        ∙ sym (dart-both n least a b (dart-good n least a (r .left .allowed) (r .left .below)) (dart-good n least b (r .right .allowed) (r .right .below)))
 
 -- ---- the first image that breaks a rule
 

@@ -109,5 +109,6 @@ module _ (rows marks queue output vertices : List ℕ) (coordinates : List Float
     unfolding listTested
     list-all o t w long q =
         q
-        ∙ ap (λ (m : Made). listDone (darts rows) marks queue (filled output m)) (sym (called-made (lending marks queue vertices coordinates) list rows plan w long))
+        ∙ ap (λ (m : Made). listDone (darts rows) marks queue (filled output m))
+        (sym (called-made (lending marks queue vertices coordinates) list rows plan w long))
         ∙ simp (eq-eqb (length list % 3) 0 h, ← e, t)

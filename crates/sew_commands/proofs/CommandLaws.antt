@@ -28,7 +28,8 @@ use Rattle.map_betas.specs.Cores.{linkCore}
 use Rattle.map_betas.proofs.Always.{link-formed, link-length, unlink-formed, unlink-length}
 use Rattle.map_betas.proofs.GuardLaws.{are-darts}
 use Rattle.link_walk.proofs.Kept.{Keeps, unlink-kept}
-use Rattle.link_run.proofs.LinkLaws.{on-map, link-on-map, link-kept, link-unmoved}
+use Rattle.map_betas.proofs.Guarded.{on-map}
+use Rattle.link_run.proofs.LinkLaws.{link-on-map, link-kept, link-unmoved}
 use Rattle.sew_ground.specs.Sewn.{Sewn, Work, work, leaves, sewn}
 use Rattle.sew_ground.specs.One.{oneSewOn, oneUnsewOn}
 use Rattle.sew_ground.specs.Two.{sideOf, badSides, linkedSides, twoSewOn, twoUnsewOn}
@@ -124,7 +125,7 @@ module _ (lent : Lending) (rows plan : List ℕ) where
         let x : Work = workOf o (lent .vertices) (lent .coordinates) rows ld rd in
         ap onPlan
         (sew-call o ld rd
-        ∙ ap (λ (g : Answer). sewCall g rows (lent .marks) (lent .queue) plan x) (on-map rows _ ld (sewSecond o ld rd) w (loans-lent o)))
+        ∙ ap (λ (g : Answer). sewCall g rows (lent .marks) (lent .queue) plan x) (on-map rows _ 1 ld (sewSecond o ld rd) w (loans-lent o)))
         ∙ behind-darts (dartTest (darts rows) 1 ld (sewSecond o ld rd)) x
     call-on-map Unknown operation ld rd = refl
 

@@ -117,7 +117,8 @@ module _ (lent : Lending) (rows : List ℕ) (w : WellFormed rows) (long : LongEn
         list-append xs (operation ∷ ld ∷ rd ∷ ys) plan h
         ∙ ap (before (first .answers) (first .entries) (take (width * first .entries) (first .plan)))
         (goes-past (called lent) ys s (first .rows) left (refused-count (s .answer) t) (k .0) (k .1))
-        ∙ before-nothing first (first .entries) (take (width * first .entries) (first .plan)) (answerWords (s .answer)) (made (called lent) ys (first .rows) left)
+        ∙ before-nothing first (first .entries) (take (width * first .entries) (first .plan)) (answerWords (s .answer))
+        (made (called lent) ys (first .rows) left)
 
 -- demand 3 in a list: the next command is the 3-unlink, whatever stands in its ignored place
 module _ (lent : Lending) (rows plan : List ℕ) (ld rd : ℕ) (done : isDone (threeLink rows ld rd .answer) ≡ true) (ignored : ℕ) (list : List ℕ) where
@@ -151,7 +152,8 @@ pub restored-anywhere : (lent : Lending) (rows : List ℕ) → WellFormed rows �
     made (called lent) (xs ++ (3 ∷ ld ∷ rd ∷ 8 ∷ ld ∷ ignored ∷ ys)) rows plan ≡
     before (made (called lent) xs rows plan .answers ++ (answerWords (Done 0 0) ++ answerWords (Done rd 0))) (made (called lent) xs rows plan .entries)
     (take (width * made (called lent) xs rows plan .entries) (made (called lent) xs rows plan .plan))
-    (made (called lent) ys (made (called lent) xs rows plan .rows) (drop (width * made (called lent) xs rows plan .entries) (made (called lent) xs rows plan .plan)))
+    (made (called lent) ys (made (called lent) xs rows plan .rows) (drop (width * made (called lent) xs rows plan .entries)
+    (made (called lent) xs rows plan .plan)))
 restored-anywhere lent rows w long xs ys plan h ld rd ignored done =
     let m : Made = made (called lent) xs rows plan in
     let left : List ℕ = drop (width * m .entries) (m .plan) in

@@ -85,7 +85,8 @@ module _ (vertices : List ℕ) (coordinates : List Float) (list rows₀ output�
         let c : ℕ = countOf (x .answer) in
         let p : List ℕ = take (width * written) plan in
         let l : List ℕ = drop (3 * (k + 1)) list in
-        ap (λ (t : List ℕ). before t (written + c) (take (width * (written + c)) (p ++ x .plan)) (made step l (x .rows) (drop (width * (written + c)) (p ++ x .plan))))
+        ap (λ (t : List ℕ). before t (written + c) (take (width * (written + c)) (p ++ x .plan))
+        (made step l (x .rows) (drop (width * (written + c)) (p ++ x .plan))))
         (answered-front output k (x .answer) room)
         ∙ ap (λ (t : List ℕ). before (take (answerWidth * k) output ++ answerWords (x .answer)) (written + c) t (made step l (x .rows)
         (drop (width * (written + c)) (p ++ x .plan)))) (take-behind written p (x .plan) first-long c)

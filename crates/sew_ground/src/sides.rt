@@ -1,7 +1,7 @@
 // What a sew asks of a dart: the cells at its two ends.
 use crate::items::Items;
 use crate::items::item_if;
-use cell_orbits::core::name_core;
+use cell_cores::core::name_core;
 use cell_steps::cells::Class;
 use map_betas::betas::beta_at;
 use map_betas::betas::larger_of;

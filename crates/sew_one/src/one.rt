@@ -1,5 +1,5 @@
 // The 1-sew and the 1-unsew. Ports dim3/sews/one.rs.
-use cell_orbits::core::name_core;
+use cell_cores::core::name_core;
 use cell_steps::cells::Class;
 use map_betas::betas::beta_at;
 use map_betas::betas::larger_of;

@@ -1,5 +1,5 @@
 // The splits of one pair of darts: at most three.
-use cell_orbits::core::name_core;
+use cell_cores::core::name_core;
 use cell_steps::cells::Class;
 use map_betas::betas::beta_at;
 use map_betas::betas::larger_of;

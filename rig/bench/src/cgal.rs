@@ -4,6 +4,8 @@ use std::collections::HashMap;
 use std::path::{Path, PathBuf};
 use std::process::Command;
 
+use inkcapper::Cell;
+
 use crate::grid::fnv1a;
 use crate::lines::{CELLS, Input, Line, Times, Who, cell_name};
 use crate::ours::Lists;
@@ -51,6 +53,43 @@ pub fn sews(times: &mut Times, program: &Path, input: Input, rows: &[u32], runs:
     let Input::Grid(side) = input else { return Err("only grids are sewn".into()) };
     let text = run(program, "sews", side, runs)?;
     take(times, input, &text, HashMap::from([("rows".to_string(), rows)]), &sew_names())
+}
+
+/// What is known of the edges of a grid: its rows, the list of edges, those of the probes, and the identifiers of the
+/// edges and vertices of all darts.
+pub struct Edges<'a> {
+    pub rows: &'a [u32],
+    pub list: &'a [u32],
+    pub probes: &'a [u32],
+    pub names: [&'a [u32]; 2],
+}
+
+/// Runs it on a grid for its edges alone, and makes sure that they are those that are known.
+pub fn edges(times: &mut Times, program: &Path, input: Input, known: &Edges, runs: usize) -> Result<(), String> {
+    let Input::Grid(side) = input else { return Err("only grids are asked for their edges".into()) };
+    let text = run(program, "edges", side, runs)?;
+    let expected = [
+        ("rows", known.rows),
+        ("first_edges", known.list),
+        ("least_edges", known.list),
+        ("id_edge", known.probes),
+        ("all_edges", known.names[0]),
+        ("twice_edges", known.names[0]),
+        ("all_vertices", known.names[1]),
+    ];
+    let lines = [
+        ("first_edges", Line::FirstDarts(Cell::Edge)),
+        ("least_edges", Line::List(Cell::Edge)),
+        ("id_edge", Line::Id(Cell::Edge)),
+        ("orbit_edge", Line::Orbit(Cell::Edge)),
+        ("all_edges", Line::Each(Cell::Edge)),
+        ("twice_edges", Line::Twice(Cell::Edge)),
+        ("again_edges", Line::Again(Cell::Edge)),
+        ("all_vertices", Line::Each(Cell::Vertex)),
+    ];
+    let expected = expected.map(|(name, words)| (name.to_string(), words));
+    let lines = lines.map(|(name, line)| (name.to_string(), line));
+    take(times, input, &text, HashMap::from(expected), &Names::from(lines))
 }
 
 /// Runs it on one input and makes sure that map, lists and identifiers are ours.

@@ -102,6 +102,17 @@ pub fn ring(darts: u32) -> Grid {
     Grid { rows, vertex_marks: vec![0; n], coordinates: vec![0.0; 3 * n], probes: Vec::new() }
 }
 
+/// The same darts and edges, with every dart a face of its own: beta 0 and beta 1 lead back to it. A vertex then has
+/// the darts of its edge and no others. There are no points.
+pub fn lone_faces(grid: &Grid) -> Grid {
+    let n = grid.vertex_marks.len();
+    let mut rows = grid.rows.clone();
+    for (d, images) in rows.chunks_exact_mut(4).enumerate() {
+        images[..2].fill(d as u32);
+    }
+    Grid { rows, vertex_marks: vec![0; n], coordinates: vec![0.0; 3 * n], probes: Vec::new() }
+}
+
 /// FNV-1a over words, as cgal/cells.cpp has it.
 pub fn fnv1a(words: &[u32]) -> u64 {
     words.iter().fold(0xcbf2_9ce4_8422_2325, |h, &word| (h ^ u64::from(word)).wrapping_mul(0x0000_0100_0000_01b3))
@@ -141,6 +152,10 @@ mod tests {
                 }
             }
             assert!(side == 1 || grid.probes.iter().all(|&d| grid.rows[4 * d as usize + 3] != 0));
+            let lone = lone_faces(&grid);
+            for (cell, rows) in [(Cell::Edge, &grid.rows), (Cell::Vertex, &lone.rows), (Cell::Edge, &lone.rows)] {
+                assert_eq!(loans.list(cell, rows, &flags).expect("a list").len(), 3 * k * (k + 1).pow(2));
+            }
         }
         slices::check_map(&ring(7).rows).done().expect("a map");
     }

@@ -54,6 +54,23 @@ pub enum Line {
     /// A command of this operation, in a list of such alone, and what it takes beyond the empty list.
     Command(u32),
     BeyondList(u32),
+    /// The list of edges with a map test right before it, that test, and what the list took beyond it.
+    EdgeList,
+    EdgeListTest,
+    BeyondEdgeList,
+    /// A command of a list that 2-unsews and 2-sews every pair of darts, and what it takes beyond the empty list.
+    Resew,
+    BeyondResew,
+    /// For a dart: a list of refusals that asks for its edge and two vertices, one that asks for the vertices alone,
+    /// and the difference, which is the edge.
+    EdgeAndVertices,
+    VerticesAlone,
+    EdgeAlone,
+    /// CGAL alone: the least dart of a dart's cell, over all darts one after another; the same where each is asked
+    /// for twice in a row; and the difference.
+    Each(Cell),
+    Twice(Cell),
+    Again(Cell),
 }
 
 /// Which slots of a stored grid hold a point.
@@ -105,6 +122,13 @@ pub const CALLS: [Line; 10] = [
     Line::TwoUnsew,
 ];
 
+/// The places of these lines in the order in which they can be measured: what takes a link away comes before what puts
+/// it there.
+pub const CALL_ORDER: [usize; 10] = [0, 1, 2, 3, 4, 5, 7, 6, 9, 8];
+
+/// The place of the edge identifier.
+pub const EDGE_CALL: usize = 1;
+
 /// A cell's name, one and many.
 pub fn cell_name(cell: Cell) -> (&'static str, &'static str) {
     match cell {
@@ -143,6 +167,17 @@ impl Line {
             Self::Build => "grid from free darts, in a list".into(),
             Self::Command(operation) => format!("operation {operation}, in a list"),
             Self::BeyondList(operation) => format!("operation {operation} beyond the empty list"),
+            Self::EdgeList => "list of edges after a map test".into(),
+            Self::EdgeListTest => "map test before the list of edges".into(),
+            Self::BeyondEdgeList => "list of edges beyond the map test".into(),
+            Self::Resew => "2-unsew or 2-sew of every pair, in a list".into(),
+            Self::BeyondResew => "2-unsew or 2-sew beyond the empty list".into(),
+            Self::EdgeAndVertices => "edge and two vertices, in a list".into(),
+            Self::VerticesAlone => "two vertices, in a list".into(),
+            Self::EdgeAlone => "edge, in a list".into(),
+            Self::Each(cell) => format!("least dart of the {} of every dart", cell_name(cell).0),
+            Self::Twice(cell) => format!("least dart of the {} of every dart, twice", cell_name(cell).0),
+            Self::Again(cell) => format!("least dart of the {} of every dart, again", cell_name(cell).0),
         }
     }
 }

@@ -9,7 +9,7 @@ use crate::lines::{Input, Line, Times, Who};
 use crate::report::{cell, ratio, signed_cell, thousands, times_text};
 
 /// A command: operation, first dart, second dart.
-type Command = [u32; 3];
+pub type Command = [u32; 3];
 
 /// The operations by their numbers from 1 on, each with which darts it is measured.
 const OPERATIONS: [(&str, Darts); 11] = [
@@ -70,7 +70,7 @@ impl Darts {
     }
 }
 
-fn image(rows: &[u32], i: usize, d: u32) -> u32 {
+pub fn image(rows: &[u32], i: usize, d: u32) -> u32 {
     rows[4 * d as usize + i]
 }
 
@@ -108,21 +108,21 @@ fn entries(operation: u32) -> usize {
 }
 
 /// What a list is lent beside rows and points, touched before it is measured.
-struct Lent {
+pub struct Lent {
     marks: Vec<u8>,
     queue: Vec<u32>,
-    output: Vec<u32>,
+    pub output: Vec<u32>,
     plan: Vec<u32>,
 }
 
 impl Lent {
     /// For lists of up to so many commands and entries.
-    fn of(n: usize, commands: usize, entries: usize) -> Self {
+    pub fn of(n: usize, commands: usize, entries: usize) -> Self {
         Self { marks: vec![1; n], queue: vec![1; n], output: vec![1; 5 * commands], plan: vec![1; 4 * entries] }
     }
 
-    /// Makes a list, of which every command has to be done: how long it took, and its plan.
-    fn run(&mut self, rows: &mut [u32], grid: &Grid, list: &[Command]) -> (f64, &[u32]) {
+    /// Makes a list: how long it took, and how many entries it wrote.
+    pub fn make(&mut self, rows: &mut [u32], grid: &Grid, list: &[Command]) -> (f64, usize) {
         let Self { marks, queue, output, plan } = self;
         let (points, at) = (&grid.vertex_marks, &grid.coordinates);
         let mut count = 0;
@@ -130,8 +130,14 @@ impl Lent {
             let answer = slices::commands(rows, marks, queue, output, points, at, plan, list.as_flattened());
             count = answer.done().expect("a list").1 as usize;
         });
-        assert!(output.chunks_exact(5).take(list.len()).all(|five| five[0] == 0), "a refusal");
-        (took, &plan[..4 * count])
+        (took, count)
+    }
+
+    /// Makes a list, of which every command has to be done: how long it took, and its plan.
+    fn run(&mut self, rows: &mut [u32], grid: &Grid, list: &[Command]) -> (f64, &[u32]) {
+        let (took, count) = self.make(rows, grid, list);
+        assert!(self.output.chunks_exact(5).take(list.len()).all(|five| five[0] == 0), "a refusal");
+        (took, &self.plan[..4 * count])
     }
 }
 
@@ -179,14 +185,14 @@ pub struct Runs {
 
 /// Times of a list: ours, the empty list right before it, and the published Rust's.
 #[derive(Default)]
-struct Found {
-    ours: Vec<f64>,
-    empty: Vec<f64>,
-    text: Vec<f64>,
+pub struct Found {
+    pub ours: Vec<f64>,
+    pub empty: Vec<f64>,
+    pub text: Vec<f64>,
 }
 
 /// A list from these rows to the grid's, ours and the published Rust's, with the same plan.
-fn to_grid(grid: &Grid, oracle: &mut Oracle, start: &[u32], list: &[Command], runs: Runs) -> Found {
+pub fn to_grid(grid: &Grid, oracle: &mut Oracle, start: &[u32], list: &[Command], runs: Runs) -> Found {
     let room = list.iter().map(|command| entries(command[0])).sum();
     let mut lent = Lent::of(grid.vertex_marks.len(), list.len(), room);
     let (mut rows, mut plan) = (start.to_vec(), Vec::with_capacity(4 * room));
@@ -276,14 +282,15 @@ pub fn measure(times: &mut Times, input: Input, grid: &Grid, oracle: &mut Oracle
     operations(times, input, side, grid, oracle, runs);
 }
 
-/// Whether no list of 3-links is slower, for a face, than CGAL's test and sew.
-fn verdict(times: &Times, grids: &[Input]) -> String {
-    let of = |input: &Input| {
-        let (cgal, ours) = (times.get(Who::Cgal, *input, Line::TestedSew)?, times.get(Who::Ours, *input, Line::Glue)?);
-        Some((ours.median <= cgal.median, ours.least <= cgal.least))
+/// Whether ours takes no longer than what it is held to, on each grid where both were measured.
+pub fn verdict(grids: &[Input], both: impl Fn(Input) -> (Option<Spread>, Option<Spread>)) -> String {
+    let of = |&input: &Input| {
+        let (ours, held) = both(input);
+        ours.zip(held)
     };
-    let known: Vec<(bool, bool)> = grids.iter().filter_map(of).collect();
-    let (medians, leasts) = (known.iter().filter(|met| met.0).count(), known.iter().filter(|met| met.1).count());
+    let known: Vec<(Spread, Spread)> = grids.iter().filter_map(of).collect();
+    let medians = known.iter().filter(|(ours, held)| ours.median <= held.median).count();
+    let leasts = known.iter().filter(|(ours, held)| ours.least <= held.least).count();
     match known.len() {
         0 => "not measured".into(),
         all if medians == all => format!("met by medians on all {all} grids, by least times on {leasts}"),
@@ -292,7 +299,7 @@ fn verdict(times: &Times, grids: &[Input]) -> String {
 }
 
 /// A line of a table.
-fn row(text: &mut String, cells: &[String]) {
+pub fn row(text: &mut String, cells: &[String]) {
     text.push_str(&format!("| {} |\n", cells.join(" | ")));
 }
 
@@ -304,7 +311,7 @@ pub fn tables(times: &Times, grids: &[Input]) -> String {
         "**A list of 3-links no slower, for a face, than CGAL's `is_sewable<3>` and `sew<3>`**: {}.\n\n\
          | darts | inner faces | ours, a face | beyond the empty list | published Rust | CGAL | Rust / ours | CGAL / ours |\n\
          |---|---|---|---|---|---|---|---|\n",
-        verdict(times, grids)
+        verdict(grids, |input| (get(Who::Ours, input, Line::Glue), get(Who::Cgal, input, Line::TestedSew)))
     );
     for &input in grids {
         let [ours, rust] = [Who::Ours, Who::Text].map(|who| get(who, input, Line::Glue));

@@ -82,11 +82,36 @@ pub fn whole_map(times: &mut Times, input: Input, rows: &[u32], runs: usize) -> 
     lists
 }
 
-/// Single calls: each run is the mean over the probes. Returns the identifiers found.
+/// The clearing of marks and queue alone, after a map test as in [`whole_map`].
+pub fn clearing(times: &mut Times, input: Input, rows: &[u32], runs: usize) {
+    let mut scratch = Scratch::of(rows);
+    for _ in 0..runs {
+        pass(Line::MapTest, rows, &mut scratch);
+        times.put(Who::Ours, input, Line::ClearScratch, &[pass(Line::ClearScratch, rows, &mut scratch)]);
+    }
+}
+
+/// The list of edges, with a map test timed right before it, so that what the list takes beyond its own is a
+/// difference within a run. Returns the list.
+pub fn edge_list(times: &mut Times, input: Input, rows: &[u32], runs: usize) -> Vec<u32> {
+    let mut scratch = Scratch::of(rows);
+    let mut list = Vec::new();
+    for _ in 0..runs {
+        let test = pass(Line::MapTest, rows, &mut scratch);
+        let (took, count) = scratch.list(Cell::Edge, rows);
+        times.put(Who::Ours, input, Line::EdgeListTest, &[test]);
+        times.put(Who::Ours, input, Line::EdgeList, &[took]);
+        times.put(Who::Ours, input, Line::BeyondEdgeList, &[took - test]);
+        list = scratch.output[..count].to_vec();
+    }
+    list
+}
+
+/// The single calls at these places of [`CALLS`]: each run is the mean over the probes. Returns the identifiers found.
 ///
 /// Every call contains one map test, which is most of it; so a map test is timed right beside each, and
 /// what the call took beyond it is the difference within a run, not between medians.
-pub fn calls(times: &mut Times, input: Input, grid: &mut Grid, runs: usize) -> Lists {
+pub fn calls(times: &mut Times, input: Input, grid: &mut Grid, places: &[usize], runs: usize) -> Lists {
     let mut scratch = Scratch::of(&grid.rows);
     let Grid { rows, vertex_marks, coordinates, probes } = grid;
     // what an unlink or unsew of a probe takes away, and the link or sew puts back
@@ -96,9 +121,7 @@ pub fn calls(times: &mut Times, input: Input, grid: &mut Grid, runs: usize) -> L
     let mut found: [[Vec<f64>; 2]; CALLS.len()] = Default::default();
     let mut ids = Lists::default();
     for _ in 0..runs {
-        // what takes a link away comes before what puts it there
-        let order = [0, 1, 2, 3, 4, 5, 7, 6, 9, 8];
-        for at in order {
+        for &at in places {
             let test = time(|| probes.iter().for_each(|_| _ = slices::check_map(rows).done().expect("a map")));
             let Scratch { marks, queue, output, plan, .. } = &mut scratch;
             // choosing the call each time is nothing beside a map test
@@ -123,7 +146,8 @@ pub fn calls(times: &mut Times, input: Input, grid: &mut Grid, runs: usize) -> L
             found[at][1].push(mean(test));
         }
     }
-    for (at, [took, test]) in found.iter().enumerate() {
+    for &at in places {
+        let [took, test] = &found[at];
         let beyond: Vec<f64> = took.iter().zip(test).map(|(took, test)| took - test).collect();
         times.put(Who::Ours, input, CALLS[at], took);
         times.put(Who::Ours, input, Line::TestBeside(at), test);

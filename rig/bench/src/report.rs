@@ -5,6 +5,7 @@ use std::fmt::Write;
 use inkcapper::Cell;
 
 use crate::clock::{Spread, human};
+use crate::edges;
 use crate::images;
 use crate::lines::{CALLS, CELLS, IMAGES, Input, Line, PASSES, Times, Who, cell_name};
 use crate::lists;
@@ -346,6 +347,8 @@ pub fn report(times: &Times, inputs: &Inputs, machine: &Machine) -> String {
     r.say("\n## Lists of commands\n");
     r.say("One call makes thousands of joins under one map test and one clearing of scratch, which every time of ours below contains. The published Rust makes the same commands as single calls, without a map test; what it asks of its stores is written down as our plan is. Every command is done, and rows and plans are the same on all sides. CGAL's times are its `is_sewable<3>` and `sew<3>` together.\n");
     r.say(lists::tables(times, &inputs.grids).trim_end());
+    r.say("\n## Edge names\n");
+    r.say(edges::tables(times, &inputs.grids).trim_end());
     r.goals();
     r.text
 }

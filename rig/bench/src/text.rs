@@ -25,6 +25,11 @@ pub fn hold(grid: &Grid) -> Oracle {
     oracle
 }
 
+/// The identifiers of the cells of all darts.
+pub fn names(oracle: &Oracle, cell: Cell) -> Vec<u32> {
+    (1..oracle.darts() as u32).map(|d| oracle.identifier(of_oracle(cell), d).1[0] as u32).collect()
+}
+
 /// Lists of these cells, held against ours.
 pub fn whole_map(times: &mut Times, input: Input, oracle: &Oracle, cells: &[Cell], ours: &Lists, runs: usize) {
     for &cell in cells {

@@ -5,6 +5,8 @@
 //! - `small K PART PARTS`: all well-formed maps of K real darts, every call and dart; of five darts
 //!   there are 1,045,096 maps and some 440 million calls, so a run can be split into parts
 //! - `walks ROUNDS STEPS SEED`: long walks of calls over random maps and grids of cubes
+//! - `edges LONGEST ROUNDS SEED`: round and open edges of up to LONGEST darts, then random maps, the edge of
+//!   every dart named
 //! - `floats ROUNDS SEED`: 2-sews over NaN, infinities, zeros, ties
 //! - `refusals ROUNDS SEED`: wrong sizes, loans, rows, darts, betas, plan room
 //! - `largest`: the largest map, one dart more, lengths that are no rows, long faces, whole grids, the largest
@@ -63,7 +65,7 @@ fn plan(arguments: &[String]) -> Vec<(String, Vec<u64>)> {
     }
     let mut plan: Vec<(String, Vec<u64>)> = (0..5).map(|k| ("small".to_string(), vec![k])).collect();
     // the largest maps last of those that ask the published Rust: its sets stay as large as they ever were
-    let others = ["walks", "lists", "floats", "refusals", "largest", "images", "bytes", "writes"];
+    let others = ["walks", "edges", "lists", "floats", "refusals", "largest", "images", "bytes", "writes"];
     plan.extend(others.map(|run| (run.to_string(), Vec::new())));
     plan
 }
@@ -82,6 +84,7 @@ fn perform(run: &str, numbers: &[u64]) -> (Comparison, Vec<String>) {
     match run {
         "small" => runs::small(&mut comparison, count(0, 4), count(1, 0), count(2, 1)),
         "walks" => runs::walks(&mut comparison, count(0, 1500), count(1, 400), number(2, 1)),
+        "edges" => runs::edges(&mut comparison, count(0, 300), count(1, 400), number(2, 1)),
         "floats" => runs::floats(&mut comparison, count(0, 1_000_000), number(1, 1)),
         "refusals" => runs::refusals(&mut comparison, count(0, 1_000_000), number(1, 1)),
         "largest" => runs::largest(&mut comparison),
@@ -102,7 +105,7 @@ fn number(word: &str) -> u64 {
 /// Says which runs there are, and ends with 2.
 fn usage<T>(word: &str) -> T {
     eprintln!(
-        "compare: {word}? runs are small, walks, floats, refusals, largest, images, bytes, writes, lists, answers, wrong, listed, cases"
+        "compare: {word}? runs are small, walks, edges, floats, refusals, largest, images, bytes, writes, lists, answers, wrong, listed, cases"
     );
     std::process::exit(2)
 }

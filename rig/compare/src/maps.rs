@@ -149,6 +149,22 @@ pub fn faces(random: &mut Random, n: usize) -> Vec<u32> {
     rows
 }
 
+/// One edge of `length` darts, joined in turn by beta 2 and beta 3, beta `first` first, among as many darts
+/// that stand alone; round if asked, where the length is even and leaves two darts to join.
+pub fn edge(random: &mut Random, length: usize, first: usize, round: bool) -> Vec<u32> {
+    let n = 1 + 2 * length;
+    let mut rows = vec![0; 4 * n];
+    let mut darts: Vec<u32> = (1..n as u32).collect();
+    random.shuffle(&mut darts);
+    let by = |turn: usize| if turn.is_multiple_of(2) { first } else { 5 - first };
+    let met = &darts[..length];
+    met.windows(2).enumerate().for_each(|(turn, pair)| join(&mut rows, by(turn), pair[0], pair[1]));
+    if round && length.is_multiple_of(2) {
+        join(&mut rows, by(length - 1), met[length - 1], met[0]);
+    }
+    rows
+}
+
 /// A corner of the grid, or twice the middle of a face.
 type Point = [usize; 3];
 
@@ -237,6 +253,7 @@ mod tests {
         for n in 1..60 {
             assert_eq!(model::first_breach(&wild(&mut random, n)), None);
             assert_eq!(model::first_breach(&faces(&mut random, n)), None);
+            assert_eq!(model::first_breach(&edge(&mut random, n, 2 + n % 2, n % 3 > 0)), None);
         }
         let (rows, _, _) = cubes([2, 2, 1]);
         assert_eq!(model::first_breach(&rows), None);

@@ -15,7 +15,10 @@ fn noise() {
 
 #[test]
 fn cases() {
-    assert_eq!(model::case_reports(&stored("test_report_cases/stdin")).into_bytes(), stored("test_report_cases/stdout"));
+    assert_eq!(
+        model::case_reports(&stored("test_report_cases/stdin")).into_bytes(),
+        stored("test_report_cases/stdout")
+    );
 }
 
 #[test]

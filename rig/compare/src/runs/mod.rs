@@ -3,6 +3,7 @@
 mod answers;
 mod bytes;
 mod calls;
+mod edges;
 mod floats;
 mod images;
 mod largest;
@@ -15,6 +16,7 @@ mod writes;
 
 pub use answers::{answers, listed, wrong};
 pub use bytes::bytes;
+pub use edges::edges;
 pub use floats::floats;
 pub use images::{image_of, images, spoil_image};
 pub use largest::largest;

@@ -1,7 +1,6 @@
 -- `meet::meet` meets its contract: a dart that has no mark is not in the queue, so it is not null. Assumes nothing.
-use native.Mathlib.Omega.{arith}
-use Rattle.cell_steps.proofs.QueueLaws.{push-old, push-room, push-new}
-use Rattle.cell_joins.proofs.PushLaws.{unmarked-real}
+use Rattle.cell_steps.proofs.QueueLaws.{push-old}
+use Rattle.cell_joins.proofs.PushLaws.{unmarked-absent, push-adds}
 use borrow.Author.Needs.{needs}
 use Rattle.cell_joins.proofs.meet.meet.Statement.{statement}
 use Rattle.cell_joins.proofs.meet.meet.Tie as tie
@@ -10,19 +9,17 @@ slice-read-if1 : tie.Need-slice-read-if1
 slice-read-if1 c = search needs
 
 returns : tie.Need-returns
-returns c = push-old _ _ _ _ (c .before .before .pre .0) (c .before .before .pre .1) (c .if1 .taken)
+returns c =
+    let entry = c .before .before .before .before in
+    push-old _ _ _ _ (entry .pre .0) (entry .pre .1) (c .if1 .taken)
 
-slice-write-marks : tie.Need-slice-write-marks
-slice-write-marks c = search needs
-
-mul-queue : tie.Need-mul-queue
-mul-queue c = search needs
-
-slice-write-queue : tie.Need-slice-write-queue
-slice-write-queue c = omega (arith, push-room _ _ _ _ (c .before .before .pre .0) (c .before .before .pre .1) (c .if1 .left), c .before .before .pre .2)
+push-requires : tie.Need-push-requires
+push-requires c κs =
+    let entry = c .before .before .before .before .before .before in
+    (entry .pre .0, entry .pre .1, entry .pre .2, unmarked-absent _ _ _ _ (entry .pre .0) (entry .pre .1) (c .before .before .if1 .left))
 
 add-result : tie.Need-add-result
-add-result c = omega (arith, push-room _ _ _ _ (c .before .before .pre .0) (c .before .before .pre .1) (c .if1 .left), c .before .before .pre .2)
+add-result c = search needs
 
 same-length : tie.Need-same-length
 same-length c = search needs
@@ -32,8 +29,12 @@ same-length-2 c = search needs
 
 returns-2 : tie.Need-returns-2
 returns-2 c =
-    let s = c .before .before in
-    push-new _ _ _ _ (s .pre .0) (s .pre .1) (c .if1 .left) (s .pre .2) (unmarked-real _ _ _ _ (s .pre .0) (s .pre .1) (s .pre .3) (c .if1 .left))
+    let at-push = c .before .before .before .before in
+    let at-if1 = at-push .before .before .before in
+    let entry = at-if1 .before .before .before .before in
+    push-adds _ _ _ _ (entry .pre .0) (entry .pre .1) (entry .pre .3) (at-if1 .if1 .left) _ _ _ (at-push .push .ensures)
 
 pub meet-spec : {M : Type 1} → statement M
-meet-spec = tie.close (tie.spec slice-read-if1 returns slice-write-marks mul-queue slice-write-queue add-result same-length same-length-2 returns-2)
+meet-spec =
+    tie.close
+    (tie.spec slice-read-if1 returns push-requires add-result same-length same-length-2 returns-2)

@@ -74,9 +74,8 @@ loop-less : tie.Need-loop-less Inv-loop μ-loop
 loop-less c =
     let at-loop-test = c .before .before .before .before .before .before .before .before .before .before in
     let at-loop = at-loop-test .before in
-    let back15 = at-loop .before .before .before .before in
+    let s = at-loop .before .before .before .before in
     let l = at-loop .loop in
-    let s = back15 in
     let n = count-n _ _ (s .args .marks .now) (s .args .queue .now) _ _ (s .pre .0 .marks-n) _ _ _ _ (l .inv .0) in
     let t : l .k < l .count = at-loop-test .loop-test .taken in
     omega arith
@@ -88,9 +87,8 @@ loop-again c =
     let at-beta-at = at-if1 .before in
     let at-loop-test = at-beta-at .before .before in
     let at-loop = at-loop-test .before in
-    let back15 = at-loop .before .before .before .before in
+    let s = at-loop .before .before .before .before in
     let l = at-loop .loop in
-    let s = back15 in
     let v = at-visit-forward .visit-forward in (
       flooding-turn _ _ (s .args .marks .now) (s .args .queue .now) _ _ (s .pre .0 .marks-n) _ _ _ _ (l .inv .0) _ _ _
           (at-loop-test .loop-test .taken) (v .kept .1 .0) (v .kept .1 .1 .0) (v .ensures),

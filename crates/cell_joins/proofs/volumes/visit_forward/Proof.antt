@@ -29,8 +29,7 @@ meet-requires-2 : tie.Need-meet-requires-2
 meet-requires-2 c κs =
     let at-meet = c .before .before .before .before .before .before in
     let at-beta-at2 = at-meet .before .before .before in
-    let back14 = at-beta-at2 .before .before .before .before .before in
-    let s = back14 in
+    let s = at-beta-at2 .before .before .before .before .before in
     let p = at-meet .meet in (
       p .ensures .queue,
       rw (at-beta-at2 .beta-at2 .ensures) (omega (arith, s .pre .0 .marks-n, p .kept .0, s .pre .0 .formed .below 2 (s .args .d))),

@@ -36,7 +36,8 @@ returns c =
     let back5 = c .before .before .before .before .before in
     let entry = back5 in
     let a = entry .args in
-    behind-refused (c .before .before .dart-test .result) _ (tests (a .link) (a .rows .now) (a .ld) (a .rd) _ _ (c .before .before .before .link-second .ensures) (c .before .before .dart-test .ensures)) _ _
+    behind-refused (c .before .before .dart-test .result) _ (tests (a .link) (a .rows .now) (a .ld) (a .rd) _ _
+    (c .before .before .before .link-second .ensures) (c .before .before .dart-test .ensures)) _ _
     (sym (c .before .is-done .ensures) ∙ not-true _ (c .if1 .taken))
 
 run-link-requires : tie.Need-run-link-requires
@@ -62,8 +63,10 @@ returns-2 c =
     let back9 = at-link-second .before .before in
     let entry = back9 in
     let a = entry .args in
-    ap given (c .before .before .run-link .ensures ∙ ap (linkOn (a .link) (a .rows .now) (a .ld)) (at-link-second .link-second .ensures) ∙ on-second (a .link) (a .rows .now) (a .ld) (a .rd))
-    ∙ behind-done (at-dart-test .dart-test .result) _ (tests (a .link) (a .rows .now) (a .ld) (a .rd) _ _ (at-link-second .link-second .ensures) (at-dart-test .dart-test .ensures)) _ _
+    ap given (c .before .before .run-link .ensures ∙ ap (linkOn (a .link) (a .rows .now) (a .ld)) (at-link-second .link-second .ensures) ∙ on-second
+    (a .link) (a .rows .now) (a .ld) (a .rd))
+    ∙ behind-done (at-dart-test .dart-test .result) _ (tests (a .link) (a .rows .now) (a .ld) (a .rd) _ _ (at-link-second .link-second .ensures)
+    (at-dart-test .dart-test .ensures)) _ _
     (sym (at-is-done .is-done .ensures) ∙ not-false _ (at-if1 .if1 .left))
 
 pub join-spec : {M : Type 1} → statement M

@@ -58,7 +58,8 @@ returns c =
     let at-enum-told = c .before .before .before .before in
     let back7 = at-enum-told .before .before .before in
     let entry = back7 in
-    on-is (entry .args .link) OneLink (entry .args .rows .now) (entry .args .ld) (entry .args .rd) _ (at-enum-told .enum-told .given .1) (c .before .before .link-core .ensures)
+    on-is (entry .args .link) OneLink (entry .args .rows .now) (entry .args .ld) (entry .args .rd) _ (at-enum-told .enum-told .given .1)
+    (c .before .before .link-core .ensures)
 
 same-length-2 : tie.Need-same-length-2
 same-length-2 c = search needs
@@ -68,7 +69,8 @@ returns-2 c =
     let at-enum-told2 = c .before .before .before .before in
     let back7 = at-enum-told2 .before .before .before in
     let entry = back7 in
-    on-is (entry .args .link) TwoLink (entry .args .rows .now) (entry .args .ld) (entry .args .rd) _ (at-enum-told2 .enum-told2 .given .1) (c .before .before .link-core2 .ensures)
+    on-is (entry .args .link) TwoLink (entry .args .rows .now) (entry .args .ld) (entry .args .rd) _ (at-enum-told2 .enum-told2 .given .1)
+    (c .before .before .link-core2 .ensures)
 
 same-length-3 : tie.Need-same-length-3
 same-length-3 c = search needs
@@ -78,7 +80,8 @@ returns-3 c =
     let at-enum-told3 = c .before .before .before .before in
     let back7 = at-enum-told3 .before .before .before in
     let entry = back7 in
-    on-is (entry .args .link) ThreeLink (entry .args .rows .now) (entry .args .ld) (entry .args .rd) _ (at-enum-told3 .enum-told3 .given .1) (c .before .before .three-link-on .ensures)
+    on-is (entry .args .link) ThreeLink (entry .args .rows .now) (entry .args .ld) (entry .args .rd) _ (at-enum-told3 .enum-told3 .given .1)
+    (c .before .before .three-link-on .ensures)
 
 same-length-4 : tie.Need-same-length-4
 same-length-4 c = search needs
@@ -88,7 +91,8 @@ returns-4 c =
     let at-enum-told4 = c .before .before .before .before in
     let back7 = at-enum-told4 .before .before .before in
     let entry = back7 in
-    on-is (entry .args .link) OneUnlink (entry .args .rows .now) (entry .args .ld) (entry .args .rd) _ (at-enum-told4 .enum-told4 .given .1) (c .before .before .unlink-core .ensures)
+    on-is (entry .args .link) OneUnlink (entry .args .rows .now) (entry .args .ld) (entry .args .rd) _ (at-enum-told4 .enum-told4 .given .1)
+    (c .before .before .unlink-core .ensures)
 
 same-length-5 : tie.Need-same-length-5
 same-length-5 c = search needs
@@ -98,7 +102,8 @@ returns-5 c =
     let at-enum-told5 = c .before .before .before .before in
     let back7 = at-enum-told5 .before .before .before in
     let entry = back7 in
-    on-is (entry .args .link) TwoUnlink (entry .args .rows .now) (entry .args .ld) (entry .args .rd) _ (at-enum-told5 .enum-told5 .given .1) (c .before .before .unlink-core2 .ensures)
+    on-is (entry .args .link) TwoUnlink (entry .args .rows .now) (entry .args .ld) (entry .args .rd) _ (at-enum-told5 .enum-told5 .given .1)
+    (c .before .before .unlink-core2 .ensures)
 
 same-length-6 : tie.Need-same-length-6
 same-length-6 c = search needs
@@ -108,7 +113,8 @@ returns-6 c =
     let at-enum-told6 = c .before .before .before .before in
     let back7 = at-enum-told6 .before .before .before in
     let entry = back7 in
-    on-is (entry .args .link) ThreeUnlink (entry .args .rows .now) (entry .args .ld) (entry .args .rd) _ (at-enum-told6 .enum-told6 .given .1) (c .before .before .three-unlink-on .ensures)
+    on-is (entry .args .link) ThreeUnlink (entry .args .rows .now) (entry .args .ld) (entry .args .rd) _ (at-enum-told6 .enum-told6 .given .1)
+    (c .before .before .three-unlink-on .ensures)
 
 pub run-link-spec : {M : Type 1} → statement M
 run-link-spec =

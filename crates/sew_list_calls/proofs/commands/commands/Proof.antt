@@ -33,7 +33,9 @@ same-length c = search needs
 
 returns : tie.Need-returns
 unfolding commands
-returns c = behind-refused (c .before .before .lent-test .result) _ (tested (c .before .before)) _ _ (sym (c .before .is-done .ensures) ∙ not-true _ (c .if1 .taken))
+returns c =
+    behind-refused (c .before .before .lent-test .result) _ (tested (c .before .before)) _ _
+    (sym (c .before .is-done .ensures) ∙ not-true _ (c .if1 .taken))
 
 commands-lent-requires : tie.Need-commands-lent-requires
 commands-lent-requires c κs =

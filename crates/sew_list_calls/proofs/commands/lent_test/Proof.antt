@@ -22,11 +22,15 @@ returns c = stops _ _ _ (c .before .before .size-test .ensures) (sym (c .before 
 loan-test-requires : tie.Need-loan-test-requires
 loan-test-requires c κs =
     let entry = c .before .before .before .before in
-    size-done (entry .args .rows .now) (ap isDone (sym (c .before .before .size-test .ensures)) ∙ sym (c .before .is-done .ensures) ∙ not-false _ (c .if1 .left)) .few
+    size-done (entry .args .rows .now) (ap isDone (sym (c .before .before .size-test .ensures)) ∙ sym (c .before .is-done .ensures) ∙ not-false _
+    (c .if1 .left)) .few
 
 returns-2 : tie.Need-returns-2
 unfolding commandsLent
-returns-2 c = c .loan-test .ensures ∙ goes-on _ _ _ (c .before .before .before .size-test .ensures) (sym (c .before .before .is-done .ensures) ∙ not-false _ (c .before .if1 .left))
+returns-2 c =
+    c .loan-test .ensures
+    ∙ goes-on _ _ _ (c .before .before .before .size-test .ensures)
+    (sym (c .before .before .is-done .ensures) ∙ not-false _ (c .before .if1 .left))
 
 pub lent-test-spec : {M : Type 1} → statement M
 lent-test-spec =

@@ -20,8 +20,13 @@ loop-holds : tie.Need-loop-holds Inv-loop μ-loop
 loop-holds c =
     let back8 = c .before .before .before .before .before .before .before .before in
     let entry = back8 in
-    let a = entry .args in
-    (making-starts (a .vertices .now) (a .coordinates .now) (a .list .now) (a .rows .now) (a .output .now) (a .plan .now) (entry .pre .0), omega arith, refl, refl)
+    let a = entry .args in (
+      making-starts (a .vertices .now) (a .coordinates .now) (a .list .now) (a .rows .now) (a .output .now) (a .plan .now)
+          (entry .pre .0),
+      omega arith,
+      refl,
+      refl,
+    )
 
 make-one-requires : tie.Need-make-one-requires Inv-loop μ-loop
 make-one-requires c κs =

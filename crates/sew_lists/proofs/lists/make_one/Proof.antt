@@ -59,8 +59,8 @@ run-command-requires c κs = search needs
 put-answer-requires : tie.Need-put-answer-requires
 put-answer-requires c κs =
     let at-run-command = c .before .before .before .before .before .before .before .before .before in
-    let back25 = at-run-command .before .before .before .before .before .before .before .before .before .before .before .before .before .before .before .before in
-    let entry = back25 in
+    let back8 = at-run-command .before .before .before .before .before .before .before .before in
+    let entry = back8 .before .before .before .before .before .before .before .before in
     let a = entry .args in
     (entry .pre .5, answer-fits (a .vertices .now) (a .coordinates .now) _ _ _ (a .rows .now) _ (entry .pre .0) _ _ _ (at-run-command .run-command .ensures .0))
 
@@ -70,12 +70,13 @@ count-of-requires c κs = search needs
 add-result : tie.Need-add-result
 add-result c =
     let at-run-command = c .before .before .before .before .before .before .before .before .before .before .before .before .before in
-    let back29 = at-run-command .before .before .before .before .before .before .before .before .before .before .before .before .before .before .before .before in
-    let entry = back29 in
+    let back8 = at-run-command .before .before .before .before .before .before .before .before in
+    let entry = back8 .before .before .before .before .before .before .before .before in
     let a = entry .args in
     let e = at-run-command .run-command .ensures in
     let p : ℕ = width * a .written in
-    let r = answer-room (a .vertices .now) (a .coordinates .now) _ _ _ (a .rows .now) (midOf p (length (a .plan .now) - p) (a .plan .now)) (entry .pre .0) _ _ _ (e .0) in
+    let r = answer-room (a .vertices .now) (a .coordinates .now) _ _ _ (a .rows .now) (midOf p (length (a .plan .now) - p) (a .plan .now))
+    (entry .pre .0) _ _ _ (e .0) in
     let l : length (midOf p (length (a .plan .now) - p) (a .plan .now)) ≡ length (a .plan .now) - p =
     ap length (rest-is (a .plan .now) p (entry .pre .6)) ∙ length-drop p (a .plan .now) in
     omega (arith, r, l, c .count-of .ensures, entry .pre .6, entry .good .1 .1 .1 .1 .1 .1 .0 .0)
@@ -98,8 +99,8 @@ same-length-5 c = search needs
 returns : tie.Need-returns
 returns c =
     let at-run-command = c .before .before .before .before .before .before .before .before .before .before .before .before .before in
-    let back29 = at-run-command .before .before .before .before .before .before .before .before .before .before .before .before .before .before .before .before in
-    let entry = back29 in
+    let back8 = at-run-command .before .before .before .before .before .before .before .before in
+    let entry = back8 .before .before .before .before .before .before .before .before in
     let a = entry .args in
     let e = at-run-command .run-command .ensures in (
       turn-is (run (a .vertices .now) (a .coordinates .now)) (a .list .now) (a .rows .now) (a .output .now) (a .plan .now) (a .k) (a .written)

@@ -38,8 +38,10 @@ returns c =
     let back14 = at-command-of .before .before .before .before .before .before .before in
     let entry = back14 in
     let a = entry .args in (
-      run-is (a .vertices .now) (a .coordinates .now) (a .operation) (a .ld) (a .rd) (a .rows .now) (a .plan .now) _ (Links (at-command .command .given .0 .0)) _
-          (at-command-of .command-of .ensures) (at-command .command .given .1) (ap (λ (o : Outcome (List ℕ)). onRows o (a .plan .now)) (c .before .before .join .ensures)),
+      run-is (a .vertices .now) (a .coordinates .now) (a .operation) (a .ld) (a .rd) (a .rows .now) (a .plan .now) _
+          (Links (at-command .command .given .0 .0)) _
+          (at-command-of .command-of .ensures) (at-command .command .given .1)
+          (ap (λ (o : Outcome (List ℕ)). onRows o (a .plan .now)) (c .before .before .join .ensures)),
       (refl, refl),
     )
 
@@ -64,7 +66,8 @@ returns-2 c =
     let entry = back23 in
     let a = entry .args in
     let e = at-sew .sew .ensures in (
-      run-is (a .vertices .now) (a .coordinates .now) (a .operation) (a .ld) (a .rd) (a .rows .now) (a .plan .now) _ (Sews (at-command2 .command2 .given .0 .0)) _
+      run-is (a .vertices .now) (a .coordinates .now) (a .operation) (a .ld) (a .rd) (a .rows .now) (a .plan .now) _
+          (Sews (at-command2 .command2 .given .0 .0)) _
           (at-command-of .command-of .ensures) (at-command2 .command2 .given .1) (e .0),
       e .1,
     )
@@ -74,7 +77,8 @@ returns-3 c =
     let back9 = c .before .before .before .before .before .before .before .before .before in
     let entry = back9 in
     let a = entry .args in (
-      run-is (a .vertices .now) (a .coordinates .now) (a .operation) (a .ld) (a .rd) (a .rows .now) (a .plan .now) _ Unknown _ (c .before .before .command-of .ensures)
+      run-is (a .vertices .now) (a .coordinates .now) (a .operation) (a .ld) (a .rd) (a .rows .now) (a .plan .now) _ Unknown _
+          (c .before .before .command-of .ensures)
           (c .enum-told .given .1) refl,
       (refl, refl),
     )

@@ -23,7 +23,8 @@ returns c =
     let back10 = c .before .before .before .before .before .before .before .before .before .before in
     let entry = back10 in
     let a = entry .args in (
-      tested-refused (a .operation) (a .vertices .now) (a .coordinates .now) (a .ld) (a .rd) (a .rows .now) (a .plan .now) _ (c .before .before .before .sew-second .ensures)
+      tested-refused (a .operation) (a .vertices .now) (a .coordinates .now) (a .ld) (a .rd) (a .rows .now) (a .plan .now) _
+          (c .before .before .before .sew-second .ensures)
           (c .before .before .dart-test .result) (c .before .before .dart-test .ensures) (sym (c .before .is-done .ensures) ∙ not-true _ (c .if1 .taken)),
       (refl, refl),
     )

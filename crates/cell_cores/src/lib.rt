@@ -1,0 +1,2 @@
+// The cores of orbits and cells.
+pub mod core;

@@ -1,0 +1,2 @@
+// What the list of faces asks of each dart.
+pub mod own;

@@ -1,0 +1,2 @@
+// The walk that finds a face identifier.
+pub mod face;

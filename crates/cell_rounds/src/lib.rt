@@ -1,0 +1,2 @@
+// Going round the chain of a face.
+pub mod rounds;

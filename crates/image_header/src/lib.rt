@@ -1,0 +1,2 @@
+// The test of a stored image's header.
+pub mod header;

@@ -1,0 +1,2 @@
+// The quick test of one dart of a map.
+pub mod quick;

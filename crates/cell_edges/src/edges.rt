@@ -13,10 +13,10 @@ ghost use Rattle.cell_steps.specs.Idents.{leastFrom, cellOf};
 ghost use Rattle.cell_edges.specs.Arms.{armOf, endOf};
 
 // How far a walk has come: the least dart and the number of those that it met, and the image that ended it.
-pub struct Walk {
-    pub least: u32,
-    pub count: usize,
-    pub end: u32,
+struct Walk {
+    least: u32,
+    count: usize,
+    end: u32,
 }
 
 // Goes on from d by beta 2 and beta 3 in turn, beta i first, until null comes or d again. Least dart and count begin with what was met before.

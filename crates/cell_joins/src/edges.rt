@@ -12,13 +12,13 @@ ghost use Rattle.cell_steps.specs.Loans.{Scratch, Queue, Grown};
 ghost use Rattle.cell_edges.specs.Arms.{armOf, endOf, others};
 
 // How many darts the queue has, and what ended the arm: null, or the dart that it began with.
-pub struct Followed {
-    pub count: usize,
-    pub end: u32,
+struct Followed {
+    count: usize,
+    end: u32,
 }
 
 // Follows beta 2 and beta 3 in turn from d, beta i first, up to null or d, and puts what it meets behind the queue.
-pub(crate) fn follow_arm(
+fn follow_arm(
     rows: &[u32],
     marks: &mut [u8],
     queue: &mut [u32],

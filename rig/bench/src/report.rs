@@ -314,7 +314,7 @@ pub fn report(times: &Times, inputs: &Inputs, machine: &Machine) -> String {
     r.say("# Benchmark\n");
     r.say("Written by `rig/bench` (its README has the command). Inkcapper through its C linkage, linked statically; the published Rust of honeycomb-core's 3-map, compiled as it stands (`rig/oracle`); CGAL's `Combinatorial_map`. The same machine, the same maps, one run.\n");
     let cores = machine.cores;
-    r.say(format!("- Processor: {}, {cores} cores, shared with other work while this ran.", machine.processor));
+    r.say(format!("- Processor: {}, {cores} cores.", machine.processor));
     r.say(format!("- Compilers: {}", machine.compilers));
     match &machine.cgal {
         Ok(version) => {

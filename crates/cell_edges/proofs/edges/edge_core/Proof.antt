@@ -16,7 +16,7 @@ returns c =
     let at-walk-arm = c .before .before in
     let entry = at-walk-arm .before .before in
     let a = at-walk-arm .walk-arm .ensures in
-    round-cell (entry .args .rows .now) (entry .pre .0) _ (entry .pre .1) _ _ _ (a .0) (a .1) (a .2) (c .if1 .taken)
+    round-cell (entry .args .rows .now) (entry .pre .0) _ (entry .pre .1) _ _ _ (a .0) (a .1) (a .2) (omega (arith, c .if1 .taken))
 
 walk-arm-requires-2 : tie.Need-walk-arm-requires-2
 walk-arm-requires-2 c κs =
@@ -32,7 +32,7 @@ returns-2 c =
     let entry = at-walk-arm .before .before in
     let a = at-walk-arm .walk-arm .ensures in
     let b = c .walk-arm2 .ensures in
-    open-cell (entry .args .rows .now) (entry .pre .0) _ (entry .pre .1) _ _ _ _ _ (a .0) (a .1) (a .2) (at-if1 .if1 .left) (b .0) (b .1)
+    open-cell (entry .args .rows .now) (entry .pre .0) _ (entry .pre .1) _ _ _ _ _ (a .0) (a .1) (a .2) (omega (arith, at-if1 .if1 .left)) (b .0) (b .1)
 
 pub edge-core-spec : {M : Type 1} → statement M
 edge-core-spec = tie.close (tie.spec walk-arm-requires returns walk-arm-requires-2 returns-2)

@@ -12,7 +12,7 @@ import struct
 import sys
 
 import noise
-from meshes import cube_mesh, image, loops, mesh, open_strip, tetrahedron
+from meshes import cube_mesh, image, link, loops, mesh, open_strip, tetrahedron
 
 NAN = struct.unpack("<d", struct.pack("<Q", 0x7FF8000000000000))[0]
 INF = float("inf")
@@ -37,6 +37,37 @@ def cell(rows, i, d, x):
     return rows
 
 
+def unused_cases():
+    """Images with unused darts: free ones are accepted, linked ones refused, dart by dart with the other rules."""
+    # free: one between faces, the last one, every dart
+    yield image(loops([[1, 2, 3], [5, 6]]), [0, 0, 0, 0, 1, 0, 0])
+    yield image(loops([[1, 2, 3]], 5), [0, 0, 0, 0, 1])
+    yield image([0] * 16, [0, 1, 1, 1])
+    # linked: by one beta alone, either end of it
+    for i in (1, 2, 3):
+        rows = [0] * 16
+        link(rows, i, 1, 3)
+        yield image(rows, [0, 1, 0, 0])
+        yield image(rows, [0, 0, 0, 1])
+        yield image(rows, [0, 0, 1, 0])
+    # linked: all darts, the least is named; the last dart alone, which beta 1 fixes
+    triangle = loops([[1, 2, 3]])
+    yield image(triangle, [0, 1, 1, 1])
+    yield image(loops([[40]]), [0] * 40 + [1])
+    # an image of dart 2 that leads to no dart, to one that does not lead back, or to dart 2: with dart 2 unused the
+    # image is named, with dart 1 unused dart 1, with dart 3 unused the image
+    for i, x in ((0, 4), (1, 1), (2, 3), (3, 2)):
+        rows = cell(triangle, i, 2, x)
+        for unused in (2, 1, 3):
+            yield image(rows, [int(d == unused) for d in range(4)])
+    # row 0 comes first, flags and vertices before all
+    yield image(cell(triangle, 2, 0, 1), [0, 1, 0, 0])
+    yield image(triangle, [0, 1, 0, 2])
+    yield image(triangle, [1, 1, 0, 0])
+    yield image(triangle, [0, 1, 0, 0], [(1, (0.0, INF, 0.0))])
+    yield image(triangle, [0, 1, 0, 0], [(1, (0.0, 1.0, 0.0))])
+
+
 def cases():
     """Every case, in order."""
     triangle_rows = loops([[1, 2, 3]])
@@ -52,8 +83,9 @@ def cases():
     flags = [0, 0, 0, 0, 1, 0, 0, 0, 0, 1, 1, 0]
     points = [(1, (0.0, -0.0, 5e-324)), (2, (1.0, 0.5, -2.25)), (11, (1e300, -1e-300, 3.0))]
     yield image(rows, flags, points)
-    # a linked dart that is flagged as unused, and a dart that beta 1 fixes
+    # a linked dart that is flagged as unused, and a dart that beta 1 fixes; the same, used
     yield image(loops([[1, 2, 3], [4]]), [0, 0, 1, 0, 0])
+    yield image(loops([[1, 2, 3], [4]]))
     # a triangle glued to a quad
     rows = loops([[1, 2, 3], [4, 5, 6, 7]])
     for a, b in ((1, 4), (2, 7), (3, 6)):
@@ -101,6 +133,7 @@ def cases():
     # two faults: the first test counts
     yield byte(image(cell(triangle_rows, 1, 3, 4)), 95, 2)
     yield byte(image(triangle_rows, None, [(1, (NAN, 0.0, 0.0))]), 92, 1)
+    yield from unused_cases()
     # every truncation of the triangle, and every single changed word of its header
     for k in range(len(triangle)):
         yield triangle[:k]

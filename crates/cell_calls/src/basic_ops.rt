@@ -29,10 +29,18 @@ fn id_done(rows: &[u32], marks: &mut [u8], queue: &mut [u32], class: Class, d: u
 }
 
 // The identifier of d's cell of a class.
-fn id_call(rows: &[u32], marks: &mut [u8], queue: &mut [u32], class: Class, d: u32) -> Answer
-    ensures { λ a. ⌜ outcome a (now (marks .exit), now (queue .exit)) ≡ idCall (now (rows .entry)) (now (marks .entry)) (now (queue .entry)) class d ⌝ }
+fn id_call(
+    rows: &[u32],
+    marks: &mut [u8],
+    queue: &mut [u32],
+    flags: &[u8],
+    class: Class,
+    d: u32,
+) -> Answer
+    ensures { λ a. ⌜ outcome a (now (marks .exit), now (queue .exit))
+        ≡ idCall (now (rows .entry)) (now (marks .entry)) (now (queue .entry)) (now (flags .entry)) class d ⌝ }
 {
-    let g = guard(rows, scratch(marks.len(), queue.len()), 0, d, d);
+    let g = guard(rows, flags, scratch(marks.len(), queue.len()), 0, d, d);
     if !is_done(g) {
         return g;
     }
@@ -40,29 +48,33 @@ fn id_call(rows: &[u32], marks: &mut [u8], queue: &mut [u32], class: Class, d: u
 }
 
 // The least dart of d's vertex.
-pub fn vertex_id(rows: &[u32], marks: &mut [u8], queue: &mut [u32], d: u32) -> Answer
-    ensures { λ a. ⌜ outcome a (now (marks .exit), now (queue .exit)) ≡ idCall (now (rows .entry)) (now (marks .entry)) (now (queue .entry)) Vertex d ⌝ }
+pub fn vertex_id(rows: &[u32], marks: &mut [u8], queue: &mut [u32], flags: &[u8], d: u32) -> Answer
+    ensures { λ a. ⌜ outcome a (now (marks .exit), now (queue .exit))
+        ≡ idCall (now (rows .entry)) (now (marks .entry)) (now (queue .entry)) (now (flags .entry)) Vertex d ⌝ }
 {
-    id_call(rows, marks, queue, Class::Vertex, d)
+    id_call(rows, marks, queue, flags, Class::Vertex, d)
 }
 
 // The least dart of d's edge.
-pub fn edge_id(rows: &[u32], marks: &mut [u8], queue: &mut [u32], d: u32) -> Answer
-    ensures { λ a. ⌜ outcome a (now (marks .exit), now (queue .exit)) ≡ idCall (now (rows .entry)) (now (marks .entry)) (now (queue .entry)) Edge d ⌝ }
+pub fn edge_id(rows: &[u32], marks: &mut [u8], queue: &mut [u32], flags: &[u8], d: u32) -> Answer
+    ensures { λ a. ⌜ outcome a (now (marks .exit), now (queue .exit))
+        ≡ idCall (now (rows .entry)) (now (marks .entry)) (now (queue .entry)) (now (flags .entry)) Edge d ⌝ }
 {
-    id_call(rows, marks, queue, Class::Edge, d)
+    id_call(rows, marks, queue, flags, Class::Edge, d)
 }
 
 // The face identifier of d, as the Rust walks it.
-pub fn face_id(rows: &[u32], marks: &mut [u8], queue: &mut [u32], d: u32) -> Answer
-    ensures { λ a. ⌜ outcome a (now (marks .exit), now (queue .exit)) ≡ idCall (now (rows .entry)) (now (marks .entry)) (now (queue .entry)) Face d ⌝ }
+pub fn face_id(rows: &[u32], marks: &mut [u8], queue: &mut [u32], flags: &[u8], d: u32) -> Answer
+    ensures { λ a. ⌜ outcome a (now (marks .exit), now (queue .exit))
+        ≡ idCall (now (rows .entry)) (now (marks .entry)) (now (queue .entry)) (now (flags .entry)) Face d ⌝ }
 {
-    id_call(rows, marks, queue, Class::Face, d)
+    id_call(rows, marks, queue, flags, Class::Face, d)
 }
 
 // The least dart of d's volume.
-pub fn volume_id(rows: &[u32], marks: &mut [u8], queue: &mut [u32], d: u32) -> Answer
-    ensures { λ a. ⌜ outcome a (now (marks .exit), now (queue .exit)) ≡ idCall (now (rows .entry)) (now (marks .entry)) (now (queue .entry)) Volume d ⌝ }
+pub fn volume_id(rows: &[u32], marks: &mut [u8], queue: &mut [u32], flags: &[u8], d: u32) -> Answer
+    ensures { λ a. ⌜ outcome a (now (marks .exit), now (queue .exit))
+        ≡ idCall (now (rows .entry)) (now (marks .entry)) (now (queue .entry)) (now (flags .entry)) Volume d ⌝ }
 {
-    id_call(rows, marks, queue, Class::Volume, d)
+    id_call(rows, marks, queue, flags, Class::Volume, d)
 }

@@ -3,7 +3,7 @@
 --   regular-spread                    what a dart of a regular face reaches by the face's steps is regular too
 --   regular-alone, regular-paired     its two cases: no dart is faced, or all are and face each other
 --   face-id-least                     there the face identifier is the least dart of the Face orbit
---   face-null                         the face identifier of the null dart is 0
+--   face-alone                        the face identifier of a dart without an image is the dart itself
 -- Assumes nothing.
 use Prim.Native.Nat.{ℕ, zero, suc, _-_, _<_}
 use native.Mathlib.Omega.{arith}
@@ -16,7 +16,7 @@ use mathlib.Mathlib.Logic.Relation.{ReflTransGenᴰ·refl, ReflTransGenᴰ·tail
 use lib.Dec.{eqb, lit<}
 use borrow.Author.Tests.{eqb-true, eqb-false, eq-eqb, ne-eqb}
 use Rattle.map_betas.specs.Betas.{beta, darts}
-use Rattle.map_betas.specs.Maps.{WellFormed}
+use Rattle.map_betas.specs.Maps.{WellFormed, Free}
 use Rattle.map_betas.specs.Chains.{far, Chain, first, on, back}
 use Rattle.map_betas.proofs.Chains.{far-zero, chain-trans, chain-round}
 use Rattle.cell_steps.specs.Steps.{image, face}
@@ -181,18 +181,18 @@ module _ (rows : List ℕ) (w : WellFormed rows) where
   pub face-id-least : (d : ℕ) → d < darts rows → (d ≡ 0 → ⊥) → Regular rows d → faceId rows d ≡ ident rows face d
   face-id-least d lt real v = face-least rows w d lt real (v .closed) (v .across)
 
-  -- from the null dart no step leads on
-  null-reach : {x : ℕ} → Reach rows face 0 x → x ≡ 0
+  -- from a dart without an image no step leads on
+  alone-reach : (d : ℕ) → Free rows d → {x : ℕ} → Reach rows face d x → x ≡ d
   unfolding image
-  null-reach ReflTransGenᴰ·refl = refl
-  null-reach (ReflTransGenᴰ·tail {b = a} {c = b} r t) =
-      let z = null-reach r in
-      let to : (i : ℕ) → t .by ≡ i → i < 4 → image rows i a ≡ beta rows i a → b ≡ 0 =
-      λ i e lt f. sym (t .leads) ∙ ap (λ (k : ℕ). image rows k a) e ∙ f ∙ ap (beta rows i) z ∙ w .null i lt in
+  alone-reach d free ReflTransGenᴰ·refl = refl
+  alone-reach d free (ReflTransGenᴰ·tail {b = a} {c = b} r t) =
+      let z = alone-reach d free r in
+      let to : (i : ℕ) → t .by ≡ i → i < 4 → image rows i a ≡ beta rows i a → b ≡ d =
+      λ i e lt f. absurd (t .real (sym (t .leads) ∙ ap (λ (k : ℕ). image rows k a) e ∙ f ∙ ap (beta rows i) z ∙ free i lt)) in
       ⊎-elim (λ e. to 1 e (lit< tt) refl)
       (λ j. ⊎-elim (λ e. to 0 e (lit< tt) refl) (λ k. to 3 (List·Memᴰ·eq-of-singleton k) (lit< tt) refl) (List·Memᴰ·cases-cons j))
       (List·Memᴰ·cases-cons (t .listed))
 
-  pub face-null : faceId rows 0 ≡ 0
+  pub face-alone : (d : ℕ) → Free rows d → faceId rows d ≡ d
   unfolding faceId
-  face-null = null-reach (walk-facts rows w 0 .0)
+  face-alone d free = alone-reach d free (walk-facts rows w d .0)

@@ -47,8 +47,8 @@ fn list_call(
     ensures { λ a. ⌜ outcome a (now (marks .exit), now (queue .exit), now (output .exit))
         ≡ listCall (now (rows .entry)) (now (marks .entry)) (now (queue .entry)) (now (output .entry)) (now (flags .entry)) class ⌝ }
 {
-    let loans = list_loans(marks.len(), queue.len(), output.len(), flags.len());
-    let g = guard(rows, loans, 0, 0, 0);
+    let loans = list_loans(marks.len(), queue.len(), output.len());
+    let g = guard(rows, flags, loans, 0, 0, 0);
     if !is_done(g) {
         return g;
     }

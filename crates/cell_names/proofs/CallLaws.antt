@@ -21,14 +21,14 @@ use Rattle.cell_faces.specs.Faces.{faceId}
 use Rattle.cell_names.specs.Cells.{isFace, identOf, listOf}
 use Rattle.cell_names.specs.Calls.{idGuard, listGuard}
 
-pub id-ready : (rows marks queue : List ℕ) (d : ℕ) (g : Answer) → g ≡ idGuard rows marks queue d → isDone g ≡ true →
-    Ready rows (scratchOf (length marks) (length queue)) 0 d d
-id-ready rows marks queue d g e t = ready rows (scratchOf (length marks) (length queue)) 0 d d (ap isDone (sym e) ∙ t)
+pub id-ready : (rows marks queue flags : List ℕ) (d : ℕ) (g : Answer) → g ≡ idGuard rows marks queue flags d → isDone g ≡ true →
+    Ready rows flags (scratchOf (length marks) (length queue)) 0 d d
+id-ready rows marks queue flags d g e t = ready rows flags (scratchOf (length marks) (length queue)) 0 d d (ap isDone (sym e) ∙ t)
 
 pub list-ready : (rows marks queue output flags : List ℕ) (g : Answer) → g ≡ listGuard rows marks queue output flags → isDone g ≡ true →
-    Ready rows (listLoans (length marks) (length queue) (length output) (length flags)) 0 0 0
+    Ready rows flags (listLoans (length marks) (length queue) (length output)) 0 0 0
 list-ready rows marks queue output flags g e t =
-    ready rows (listLoans (length marks) (length queue) (length output) (length flags)) 0 0 0 (ap isDone (sym e) ∙ t)
+    ready rows flags (listLoans (length marks) (length queue) (length output)) 0 0 0 (ap isDone (sym e) ∙ t)
 
 -- the two ways to an identifier and to a list
 module _ (rows : List ℕ) where

@@ -1,14 +1,15 @@
 -- What the calls of identifiers, orbits and lists answer, for a reader.
 --   call-vertex-least, call-edge-least, call-volume-least   an identifier's call answers the least dart of the CGAL manual's cell
 --   call-orbit           an orbit's call writes the darts that the steps reach, each once, the dart itself first
+--   call-unused-id, call-unused-orbit   an unused dart is its own identifier, and its orbits are itself alone
 --   call-listed          a list's call writes exactly the darts that are not unused and are their own identifier, ascending
 --   id-refused, orbit-refused, custom-refused, list-refused   a refused call leaves every loan
--- Each but the last for a map, loans that are long enough, and a dart of it. Assumes nothing.
+-- Each but the last for a map, loans that are long enough, and a dart of it, in use or not. Assumes nothing.
 use Prim.Native.Nat.{ℕ, _≤_, _<_}
 use native.Mathlib.Omega.{arith}
-use mathlib.Core.Path.{_≡_, refl, ap}
+use mathlib.Core.Path.{_≡_, refl, ap, _∙_}
 use mathlib.Core.Logic.{_↔_}
-use mathlib.Core.Bool.{false}
+use mathlib.Core.Bool.{true, false}
 use mathlib.Core.List.{List, [], _∷_}
 use lib.ListN.{length}
 use Rattle.map_betas.specs.declared.error.Answer.{Answer}
@@ -16,8 +17,8 @@ use Rattle.map_betas.specs.declared.error.Answer.the-variants.{Done}
 use Rattle.map_betas.specs.declared.loans.Loans.{Loans}
 use Rattle.map_betas.specs.Betas.{darts}
 use Rattle.map_betas.specs.Answers.{pass, isDone, andThen, outcome, behind}
-use Rattle.map_betas.specs.Maps.{WellFormed}
-use Rattle.map_betas.specs.Guards.{scratchOf, orbitLoans, listLoans, guardOf, Lent}
+use Rattle.map_betas.specs.Maps.{WellFormed, unused, Map}
+use Rattle.map_betas.specs.Guards.{scratchOf, orbitLoans, listLoans, guardOf, Lent, Dart}
 use Rattle.map_betas.proofs.AnswerLaws.{refused-leaves}
 use Rattle.map_betas.proofs.Guarded.{guard-iff}
 use Rattle.cell_steps.specs.declared.policy.OrbitPolicy.{OrbitPolicy}
@@ -33,65 +34,83 @@ use Rattle.cell_lists.specs.CellLists.{Ascending}
 use Rattle.cell_lists.proofs.MemberLaws.{Own}
 use Rattle.cell_names.specs.Cells.{identOf, listOf}
 use Rattle.cell_names.specs.Calls.{idGuard, idDone, idCall, listGuard, listDone, listCall}
-use Rattle.cell_names.proofs.IdentifierLaws.{Least, vertex-least, edge-least, volume-least, listed-exactly, listed-ascending}
+use Rattle.cell_names.proofs.IdentifierLaws.{Least, vertex-least, edge-least, volume-least, free-ident, free-orbit, listed-exactly, listed-ascending}
 
-module _ (rows marks : List ℕ) (w : WellFormed rows) (m : darts rows ≤ length marks) where
-  -- the tests pass
-  admits : (loans : Loans) → Lent (darts rows) loans → (d : ℕ) → d < darts rows → guardOf rows loans 0 d d ≡ pass
+module _ (rows flags marks : List ℕ) (map : Map rows flags) (m : darts rows ≤ length marks) where
+  w : WellFormed rows
+  w = map .formed
+
+  -- the tests pass, whether the dart is in use or not
+  admits : (loans : Loans) → Lent (darts rows) loans → (d : ℕ) → d < darts rows → guardOf rows flags loans 0 d d ≡ pass
   admits loans l d h =
-      guard-iff rows loans 0 d d .1
-      (record { formed = w; lent = l; left = record { allowed = omega arith; below = h }; right = record { allowed = omega arith; below = h } })
+      let at : Dart (darts rows) 0 d = record { allowed = omega arith; below = h } in
+      guard-iff rows flags loans 0 d d .1
+      (record { map = map; lent = l; left = at; right = at; usedLeft = λ o. absurd (omega arith); usedRight = λ o. absurd (omega arith) })
 
   -- ---- identifiers
 
   module _ (queue : List ℕ) (q : darts rows ≤ length queue) (d : ℕ) (h : d < darts rows) where
-    id-passes : idGuard rows marks queue d ≡ pass
+    id-passes : idGuard rows marks queue flags d ≡ pass
     id-passes =
         let few = w .sized .few in
         admits (scratchOf (length marks) (length queue))
-        (record { marks = m; queue = q; output = omega arith; flags = omega arith; vertices = omega arith; coordinates = omega arith }) d h
+        (record { marks = m; queue = q; output = omega arith; vertices = omega arith; coordinates = omega arith }) d h
 
-    answered : (class : Class) → idCall rows marks queue class d .answer ≡ Done (identOf class rows d) 0
+    answered : (class : Class) → idCall rows marks queue flags class d .answer ≡ Done (identOf class rows d) 0
     unfolding idCall
     answered class = ap (λ (g : Answer). behind g (marks, queue) (idDone rows marks queue class d) .answer) id-passes
 
-    pub call-vertex-least : (x : ℕ) × (idCall rows marks queue Vertex d .answer ≡ Done x 0) × Least rows vertexΦ d x
+    pub call-vertex-least : (x : ℕ) × (idCall rows marks queue flags Vertex d .answer ≡ Done x 0) × Least rows vertexΦ d x
     call-vertex-least = (identOf Vertex rows d, answered Vertex, vertex-least rows w d h)
 
-    pub call-edge-least : (x : ℕ) × (idCall rows marks queue Edge d .answer ≡ Done x 0) × Least rows edgeΦ d x
+    pub call-edge-least : (x : ℕ) × (idCall rows marks queue flags Edge d .answer ≡ Done x 0) × Least rows edgeΦ d x
     call-edge-least = (identOf Edge rows d, answered Edge, edge-least rows w d h)
 
-    pub call-volume-least : (x : ℕ) × (idCall rows marks queue Volume d .answer ≡ Done x 0) × Least rows volumeΦ d x
+    pub call-volume-least : (x : ℕ) × (idCall rows marks queue flags Volume d .answer ≡ Done x 0) × Least rows volumeΦ d x
     call-volume-least = (identOf Volume rows d, answered Volume, volume-least rows w d h)
+
+    -- an unused dart is its own identifier, of every class
+    pub call-unused-id : unused flags d ≡ true → (class : Class) → idCall rows marks queue flags class d .answer ≡ Done d 0
+    call-unused-id u class = answered class ∙ ap (λ (x : ℕ). Done x 0) (free-ident rows w d (map .free d u) class)
 
   -- ---- orbits
 
   module _ (output : List ℕ) (o : darts rows ≤ length output) (p : OrbitPolicy) (d : ℕ) (h : d < darts rows) where
-    orbit-passes : orbitGuard rows marks output d ≡ pass
+    orbit-passes : orbitGuard rows marks output flags d ≡ pass
     orbit-passes =
         let few = w .sized .few in
         admits (orbitLoans (length marks) (length output))
-        (record { marks = m; queue = omega arith; output = o; flags = omega arith; vertices = omega arith; coordinates = omega arith }) d h
+        (record { marks = m; queue = omega arith; output = o; vertices = omega arith; coordinates = omega arith }) d h
 
-    pub call-orbit : (l : List ℕ) × (orbitCall rows marks output p d ≡ outcome (Done 0 (length l)) (wiped (darts rows) marks, headed l output))
-        × Ext (d ∷ []) l × NoRep l × ((x : ℕ) → In x l ↔ Reach rows (stepsOf p) d x)
+    is-done : orbitCall rows marks output flags p d ≡ orbitDone rows marks output (stepsOf p) d
     unfolding orbitCall
+    is-done = ap (λ (g : Answer). behind g (marks, output) (orbitDone rows marks output (stepsOf p) d)) orbit-passes
+
+    pub call-orbit : (l : List ℕ) × (orbitCall rows marks output flags p d ≡ outcome (Done 0 (length l)) (wiped (darts rows) marks, headed l output))
+        × Ext (d ∷ []) l × NoRep l × ((x : ℕ) → In x l ↔ Reach rows (stepsOf p) d x)
     call-orbit = (
       orbit rows (stepsOf p) d,
-      ap (λ (g : Answer). behind g (marks, output) (orbitDone rows marks output (stepsOf p) d)) orbit-passes,
+      is-done,
       orbit-starts rows (stepsOf p) (w .below) d h,
       orbit-norep rows (stepsOf p) (w .below) d h,
       orbit-exact rows (stepsOf p) (w .below) d h,
     )
 
+    -- the orbits of an unused dart are itself alone
+    pub call-unused-orbit : unused flags d ≡ true →
+        orbitCall rows marks output flags p d ≡ outcome (Done 0 1) (wiped (darts rows) marks, headed (d ∷ []) output)
+    call-unused-orbit u =
+        is-done
+        ∙ ap (λ (l : List ℕ). outcome (Done 0 (length l)) (wiped (darts rows) marks, headed l output)) (free-orbit rows w d (map .free d u) p)
+
   -- ---- lists
 
-  module _ (queue output flags : List ℕ) (q : darts rows ≤ length queue) (o : darts rows ≤ length output) (f : darts rows ≤ length flags) where
+  module _ (queue output : List ℕ) (q : darts rows ≤ length queue) (o : darts rows ≤ length output) where
     list-passes : listGuard rows marks queue output flags ≡ pass
     list-passes =
         let few = w .sized .few in
-        admits (listLoans (length marks) (length queue) (length output) (length flags))
-        (record { marks = m; queue = q; output = o; flags = f; vertices = omega arith; coordinates = omega arith }) 0 (w .sized .some)
+        admits (listLoans (length marks) (length queue) (length output))
+        (record { marks = m; queue = q; output = o; vertices = omega arith; coordinates = omega arith }) 0 (w .sized .some)
 
     pub call-listed : (class : Class) → (l : List ℕ)
         × (listCall rows marks queue output flags class
@@ -107,25 +126,25 @@ module _ (rows marks : List ℕ) (w : WellFormed rows) (m : darts rows ≤ lengt
 
 -- ---- a refused call, whatever it is lent
 
-module _ (rows marks : List ℕ) where
-  pub id-refused : (queue : List ℕ) (class : Class) (d : ℕ) → isDone (idCall rows marks queue class d .answer) ≡ false →
-      idCall rows marks queue class d .loans ≡ (marks, queue)
+module _ (rows marks flags : List ℕ) where
+  pub id-refused : (queue : List ℕ) (class : Class) (d : ℕ) → isDone (idCall rows marks queue flags class d .answer) ≡ false →
+      idCall rows marks queue flags class d .loans ≡ (marks, queue)
   unfolding idCall
-  id-refused queue class d = refused-leaves (idGuard rows marks queue d) (marks, queue) (idDone rows marks queue class d) refl
+  id-refused queue class d = refused-leaves (idGuard rows marks queue flags d) (marks, queue) (idDone rows marks queue class d) refl
 
-  pub orbit-refused : (output : List ℕ) (p : OrbitPolicy) (d : ℕ) → isDone (orbitCall rows marks output p d .answer) ≡ false →
-      orbitCall rows marks output p d .loans ≡ (marks, output)
+  pub orbit-refused : (output : List ℕ) (p : OrbitPolicy) (d : ℕ) → isDone (orbitCall rows marks output flags p d .answer) ≡ false →
+      orbitCall rows marks output flags p d .loans ≡ (marks, output)
   unfolding orbitCall
-  orbit-refused output p d = refused-leaves (orbitGuard rows marks output d) (marks, output) (orbitDone rows marks output (stepsOf p) d) refl
+  orbit-refused output p d = refused-leaves (orbitGuard rows marks output flags d) (marks, output) (orbitDone rows marks output (stepsOf p) d) refl
 
-  pub custom-refused : (output betas : List ℕ) (d : ℕ) → isDone (customCall rows marks output betas d .answer) ≡ false →
-      customCall rows marks output betas d .loans ≡ (marks, output)
+  pub custom-refused : (output betas : List ℕ) (d : ℕ) → isDone (customCall rows marks output flags betas d .answer) ≡ false →
+      customCall rows marks output flags betas d .loans ≡ (marks, output)
   unfolding customCall
   custom-refused output betas d =
-      refused-leaves (andThen (orbitGuard rows marks output d) (customTest betas)) (marks, output) (orbitDone rows marks output betas d) refl
+      refused-leaves (andThen (orbitGuard rows marks output flags d) (customTest betas)) (marks, output) (orbitDone rows marks output betas d) refl
 
-  pub list-refused : (queue output flags : List ℕ) (class : Class) → isDone (listCall rows marks queue output flags class .answer) ≡ false →
+  pub list-refused : (queue output : List ℕ) (class : Class) → isDone (listCall rows marks queue output flags class .answer) ≡ false →
       listCall rows marks queue output flags class .loans ≡ (marks, queue, output)
   unfolding listCall
-  list-refused queue output flags class =
+  list-refused queue output class =
       refused-leaves (listGuard rows marks queue output flags) (marks, queue, output) (listDone rows marks queue output flags class) refl

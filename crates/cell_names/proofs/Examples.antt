@@ -6,8 +6,8 @@ use lib.ListN.{replicate}
 use Rattle.map_betas.specs.declared.error.Answer.the-variants.{Done, Refused}
 use Rattle.map_betas.specs.declared.error.Refusal.the-variants.{ShortLoan, NotAMap, BadDart}
 use Rattle.map_betas.specs.Answers.{outcome}
-use Rattle.map_betas.specs.Maps.{badSize, breaks, breachAt, firstBreach, mapTest}
-use Rattle.map_betas.specs.Guards.{loanTest, noDart, guardOf}
+use Rattle.map_betas.specs.Maps.{badSize, breaks, breachAt, freeAt, unused, bound, firstBreach, mapTest}
+use Rattle.map_betas.specs.Guards.{loanTest, noDart, mapGuard, guardOf}
 use Rattle.cell_steps.specs.Steps.{image}
 use Rattle.cell_steps.specs.Search.{mem, add, visit, search, orbit}
 use Rattle.cell_steps.specs.Idents.{leastFrom, least, ident}
@@ -20,6 +20,10 @@ use Rattle.cell_names.specs.Calls.{idCall, listCall}
 -- the closed triangle 1, 2, 3: vertices 1 2 3, edges 1 2 3, faces 1, volumes 1
 triangle : List ℕ
 triangle = 0 ∷ 0 ∷ 0 ∷ 0 ∷ 3 ∷ 2 ∷ 0 ∷ 0 ∷ 1 ∷ 3 ∷ 0 ∷ 0 ∷ 2 ∷ 1 ∷ 0 ∷ 0 ∷ []
+
+-- no dart is unused
+abbrev used : List ℕ
+used = 0 ∷ 0 ∷ 0 ∷ 0 ∷ []
 
 triangle-vertices : listOf Vertex triangle (replicate 4 0) ≡ 1 ∷ 2 ∷ 3 ∷ []
 unfolding triangle image mem add visit search orbit leastFrom least ident cellsFrom cellsBy
@@ -37,44 +41,61 @@ triangle-volumes : listOf Volume triangle (replicate 4 0) ≡ 1 ∷ []
 unfolding triangle image mem add visit search orbit leastFrom least ident cellsFrom cellsBy
 triangle-volumes = refl
 
--- a dart that is unused is not listed, and the list's own length is the count
-unused-call : listCall triangle (7 ∷ 7 ∷ 7 ∷ 7 ∷ []) (8 ∷ 8 ∷ 8 ∷ 8 ∷ 8 ∷ []) (9 ∷ 9 ∷ 9 ∷ 9 ∷ []) (0 ∷ 0 ∷ 1 ∷ 0 ∷ []) Vertex
+-- darts 1 and 2, and 3 that is 2-linked with 1
+bent : List ℕ
+bent = 0 ∷ 0 ∷ 0 ∷ 0 ∷ 0 ∷ 0 ∷ 3 ∷ 0 ∷ 0 ∷ 0 ∷ 0 ∷ 0 ∷ 0 ∷ 0 ∷ 1 ∷ 0 ∷ []
+
+-- a dart that is unused is not listed, and the list's own length is the count; the flag of dart 0 says nothing
+unused-call : listCall bent (7 ∷ 7 ∷ 7 ∷ 7 ∷ []) (8 ∷ 8 ∷ 8 ∷ 8 ∷ 8 ∷ []) (9 ∷ 9 ∷ 9 ∷ 9 ∷ []) (1 ∷ 0 ∷ 1 ∷ 0 ∷ []) Vertex
     ≡ outcome (Done 0 2) (0 ∷ 0 ∷ 0 ∷ 0 ∷ [], 0 ∷ 0 ∷ 0 ∷ 0 ∷ 8 ∷ [], 1 ∷ 3 ∷ 9 ∷ 9 ∷ [])
-unfolding triangle image mem add visit search orbit leastFrom least ident cellsFrom cellsBy badSize breaks breachAt firstBreach mapTest loanTest noDart guardOf
-    listCall
+unfolding bent image mem add visit search orbit leastFrom least ident cellsFrom cellsBy badSize breaks breachAt freeAt unused bound firstBreach mapTest loanTest
+    noDart mapGuard guardOf listCall
 unused-call = refl
 
-id-call : idCall triangle (7 ∷ 7 ∷ 7 ∷ 7 ∷ 7 ∷ []) (8 ∷ 8 ∷ 8 ∷ 8 ∷ []) Volume 3 ≡ outcome (Done 1 0) (0 ∷ 0 ∷ 0 ∷ 0 ∷ 7 ∷ [], 0 ∷ 0 ∷ 0 ∷ 0 ∷ [])
-unfolding triangle image mem add visit search orbit leastFrom least ident cellsFrom cellsBy badSize breaks breachAt firstBreach mapTest loanTest noDart guardOf
+-- it is its own identifier
+unused-id : idCall bent (7 ∷ 7 ∷ 7 ∷ 7 ∷ []) (8 ∷ 8 ∷ 8 ∷ 8 ∷ []) (0 ∷ 0 ∷ 1 ∷ 0 ∷ []) Volume 2
+    ≡ outcome (Done 2 0) (0 ∷ 0 ∷ 0 ∷ 0 ∷ [], 0 ∷ 0 ∷ 0 ∷ 0 ∷ [])
+unfolding bent image mem add visit search orbit leastFrom least ident cellsFrom cellsBy badSize breaks breachAt freeAt unused bound firstBreach mapTest loanTest
+    noDart mapGuard guardOf idCall
+unused-id = refl
+
+-- unused darts that are linked: the least is named
+bound-call : listCall triangle (7 ∷ 7 ∷ 7 ∷ 7 ∷ []) (8 ∷ 8 ∷ 8 ∷ 8 ∷ []) (9 ∷ 9 ∷ 9 ∷ 9 ∷ []) (0 ∷ 0 ∷ 1 ∷ 1 ∷ []) Vertex
+    ≡ outcome (Refused (NotAMap 4 2)) (7 ∷ 7 ∷ 7 ∷ 7 ∷ [], 8 ∷ 8 ∷ 8 ∷ 8 ∷ [], 9 ∷ 9 ∷ 9 ∷ 9 ∷ [])
+unfolding triangle badSize breaks breachAt freeAt unused bound firstBreach mapTest loanTest mapGuard guardOf listCall
+bound-call = refl
+
+id-call : idCall triangle (7 ∷ 7 ∷ 7 ∷ 7 ∷ 7 ∷ []) (8 ∷ 8 ∷ 8 ∷ 8 ∷ []) used Volume 3 ≡ outcome (Done 1 0) (0 ∷ 0 ∷ 0 ∷ 0 ∷ 7 ∷ [], 0 ∷ 0 ∷ 0 ∷ 0 ∷ [])
+unfolding triangle image mem add visit search orbit leastFrom least ident cellsFrom cellsBy badSize breaks breachAt freeAt unused bound firstBreach mapTest loanTest noDart mapGuard guardOf
     idCall
 id-call = refl
 
-face-call : idCall triangle (7 ∷ 7 ∷ 7 ∷ 7 ∷ []) (8 ∷ 8 ∷ 8 ∷ 8 ∷ []) Face 2 ≡ outcome (Done 1 0) (0 ∷ 0 ∷ 0 ∷ 0 ∷ [], 0 ∷ 0 ∷ 0 ∷ 0 ∷ [])
-unfolding triangle image mem add fresh insert lower turn leg forward backward faceWalk faceId badSize breaks breachAt firstBreach mapTest loanTest noDart
-    guardOf idCall
+face-call : idCall triangle (7 ∷ 7 ∷ 7 ∷ 7 ∷ []) (8 ∷ 8 ∷ 8 ∷ 8 ∷ []) used Face 2 ≡ outcome (Done 1 0) (0 ∷ 0 ∷ 0 ∷ 0 ∷ [], 0 ∷ 0 ∷ 0 ∷ 0 ∷ [])
+unfolding triangle image mem add fresh insert lower turn leg forward backward faceWalk faceId badSize breaks breachAt freeAt unused bound firstBreach mapTest loanTest noDart
+    mapGuard guardOf idCall
 face-call = refl
 
-null-call : idCall triangle (7 ∷ 7 ∷ 7 ∷ 7 ∷ []) (8 ∷ 8 ∷ 8 ∷ 8 ∷ []) Edge 0 ≡ outcome (Done 0 0) (0 ∷ 0 ∷ 0 ∷ 0 ∷ [], 0 ∷ 0 ∷ 0 ∷ 0 ∷ [])
-unfolding triangle image mem add visit search orbit leastFrom least ident cellsFrom cellsBy badSize breaks breachAt firstBreach mapTest loanTest noDart guardOf
+null-call : idCall triangle (7 ∷ 7 ∷ 7 ∷ 7 ∷ []) (8 ∷ 8 ∷ 8 ∷ 8 ∷ []) used Edge 0 ≡ outcome (Done 0 0) (0 ∷ 0 ∷ 0 ∷ 0 ∷ [], 0 ∷ 0 ∷ 0 ∷ 0 ∷ [])
+unfolding triangle image mem add visit search orbit leastFrom least ident cellsFrom cellsBy badSize breaks breachAt freeAt unused bound firstBreach mapTest loanTest noDart mapGuard guardOf
     idCall
 null-call = refl
 
 -- refused: the second loan, the fourth, the map, the dart; marks and queue stay as they were
-queue-short : idCall triangle (7 ∷ 7 ∷ 7 ∷ 7 ∷ []) (8 ∷ 8 ∷ []) Vertex 9 ≡ outcome (Refused (ShortLoan 2)) (7 ∷ 7 ∷ 7 ∷ 7 ∷ [], 8 ∷ 8 ∷ [])
-unfolding triangle badSize loanTest guardOf idCall
+queue-short : idCall triangle (7 ∷ 7 ∷ 7 ∷ 7 ∷ []) (8 ∷ 8 ∷ []) used Vertex 9 ≡ outcome (Refused (ShortLoan 2)) (7 ∷ 7 ∷ 7 ∷ 7 ∷ [], 8 ∷ 8 ∷ [])
+unfolding triangle badSize loanTest mapGuard guardOf idCall
 queue-short = refl
 
 flags-short : listCall triangle (7 ∷ 7 ∷ 7 ∷ 7 ∷ []) (8 ∷ 8 ∷ 8 ∷ 8 ∷ []) (9 ∷ 9 ∷ 9 ∷ 9 ∷ []) [] Face
     ≡ outcome (Refused (ShortLoan 4)) (7 ∷ 7 ∷ 7 ∷ 7 ∷ [], 8 ∷ 8 ∷ 8 ∷ 8 ∷ [], 9 ∷ 9 ∷ 9 ∷ 9 ∷ [])
-unfolding triangle badSize loanTest guardOf listCall
+unfolding triangle badSize loanTest mapGuard guardOf listCall
 flags-short = refl
 
-no-map : idCall (0 ∷ 0 ∷ 0 ∷ 0 ∷ 0 ∷ 0 ∷ 1 ∷ 0 ∷ []) (7 ∷ 7 ∷ []) (8 ∷ 8 ∷ []) Edge 5 ≡ outcome (Refused (NotAMap 2 1)) (7 ∷ 7 ∷ [], 8 ∷ 8 ∷ [])
-unfolding badSize breaks breachAt firstBreach mapTest loanTest guardOf idCall
+no-map : idCall (0 ∷ 0 ∷ 0 ∷ 0 ∷ 0 ∷ 0 ∷ 1 ∷ 0 ∷ []) (7 ∷ 7 ∷ []) (8 ∷ 8 ∷ []) (0 ∷ 1 ∷ []) Edge 5 ≡ outcome (Refused (NotAMap 2 1)) (7 ∷ 7 ∷ [], 8 ∷ 8 ∷ [])
+unfolding badSize breaks breachAt freeAt unused bound firstBreach mapTest loanTest mapGuard guardOf idCall
 no-map = refl
 
-no-dart : idCall triangle (7 ∷ 7 ∷ 7 ∷ 7 ∷ []) (8 ∷ 8 ∷ 8 ∷ 8 ∷ []) Face 4 ≡ outcome (Refused (BadDart 1)) (7 ∷ 7 ∷ 7 ∷ 7 ∷ [], 8 ∷ 8 ∷ 8 ∷ 8 ∷ [])
-unfolding triangle badSize breaks breachAt firstBreach mapTest loanTest noDart guardOf idCall
+no-dart : idCall triangle (7 ∷ 7 ∷ 7 ∷ 7 ∷ []) (8 ∷ 8 ∷ 8 ∷ 8 ∷ []) used Face 4 ≡ outcome (Refused (BadDart 1)) (7 ∷ 7 ∷ 7 ∷ 7 ∷ [], 8 ∷ 8 ∷ 8 ∷ 8 ∷ [])
+unfolding triangle badSize breaks breachAt freeAt unused bound firstBreach mapTest loanTest noDart mapGuard guardOf idCall
 no-dart = refl
 
 -- a cube of 24 darts: 8 vertices, 12 edges, 6 faces, 1 volume

@@ -3,29 +3,30 @@
 --   vertex-least, edge-least, volume-least  the identifier is the least dart of the CGAL manual's cell
 --   vertex-same, edge-same, volume-same     darts have one identifier exactly where they are in one cell
 --   face-least                              so it is for a regular face
+--   free-ident, free-orbit                  a dart without an image is its own identifier, and its orbits are itself alone
 --   null-ident                              the identifier of the null dart is 0
 --   listed-exactly, listed-ascending        what a list holds, and that it ascends
 -- Assumes nothing.
 use Prim.Native.Nat.{ℕ, _≤_, _<_}
 use mathlib.Core.Path.{_≡_, sym, subst}
 use mathlib.Core.Logic.{_↔_}
-use mathlib.Core.List.{List}
+use mathlib.Core.List.{List, [], _∷_}
 use Rattle.map_betas.specs.Betas.{darts}
-use Rattle.map_betas.specs.Maps.{WellFormed}
+use Rattle.map_betas.specs.Maps.{WellFormed, Free}
 use Rattle.cell_steps.specs.declared.policy.OrbitPolicy.{OrbitPolicy}
 use Rattle.cell_steps.specs.declared.policy.OrbitPolicy.the-variants as policy
 use Rattle.cell_steps.specs.Steps.{IsStep, vertex, edge, face, volume, stepsOf}
-use Rattle.cell_steps.specs.Search.{In}
+use Rattle.cell_steps.specs.Search.{In, orbit}
 use Rattle.cell_steps.specs.Cgal.{Orbit, vertexΦ, edgeΦ, faceΦ, volumeΦ}
 use Rattle.cell_steps.specs.Idents.{ident}
 use Rattle.cell_steps.proofs.Lists.{at-in}
 use Rattle.cell_steps.proofs.StepLaws.{steps-are}
 use Rattle.cell_steps.proofs.CgalLaws.{Serves, vertex-serves, edge-serves, face-serves, volume-serves}
-use Rattle.cell_steps.proofs.CellLaws.{ident-in, ident-first, one-ident, ident-null}
+use Rattle.cell_steps.proofs.CellLaws.{ident-in, ident-first, one-ident, orbit-alone, ident-alone}
 use Rattle.cell_lists.specs.CellLists.{Ascending}
 use Rattle.cell_lists.proofs.MemberLaws as members
 use Rattle.cell_faces.specs.Faces.{faceId, Regular}
-use Rattle.cell_faces.proofs.RegularLaws.{face-id-least, face-null}
+use Rattle.cell_faces.proofs.RegularLaws.{face-id-least, face-alone}
 use Rattle.cell_steps.specs.declared.cells.Class.{Class}
 use Rattle.cell_steps.specs.declared.cells.Class.the-variants.{Vertex, Edge, Face, Volume}
 use Rattle.cell_names.specs.Cells.{identOf, listOf}
@@ -65,12 +66,18 @@ module _ (rows : List ℕ) (w : WellFormed rows) where
   are-steps : (p : OrbitPolicy) (c : ℕ) → In c (stepsOf p) → IsStep c
   are-steps p c m = let q = at-in m in subst IsStep (q .2) (steps-are p .each (q .0) (q .1))
 
-  -- the null dart is its own identifier
+  -- a dart without an image is its own identifier, and its orbits are itself alone; so the null dart
+  pub free-ident : (d : ℕ) → Free rows d → (class : Class) → identOf class rows d ≡ d
+  free-ident d f Vertex = ident-alone rows w d f vertex (are-steps policy.Vertex)
+  free-ident d f Edge = ident-alone rows w d f edge (are-steps policy.Edge)
+  free-ident d f Face = face-alone rows w d f
+  free-ident d f Volume = ident-alone rows w d f volume (are-steps policy.Volume)
+
+  pub free-orbit : (d : ℕ) → Free rows d → (p : OrbitPolicy) → orbit rows (stepsOf p) d ≡ d ∷ []
+  free-orbit d f p = orbit-alone rows w d f (stepsOf p) (are-steps p)
+
   pub null-ident : (class : Class) → identOf class rows 0 ≡ 0
-  null-ident Vertex = ident-null rows w vertex (are-steps policy.Vertex)
-  null-ident Edge = ident-null rows w edge (are-steps policy.Edge)
-  null-ident Face = face-null rows w
-  null-ident Volume = ident-null rows w volume (are-steps policy.Volume)
+  null-ident = free-ident 0 (w .null)
 
 -- what is in a list, and in which order, for any rows (scope: list)
 module _ (rows flags : List ℕ) where

@@ -17,11 +17,11 @@ use Rattle.cell_names.specs.Cells.{identOf, listOf}
 abbrev pub idDone : List ℕ → List ℕ → List ℕ → Class → ℕ → Outcome (List ℕ × List ℕ)
 idDone rows marks queue class d = outcome (Done (identOf class rows d) 0) (wiped (darts rows) marks, wiped (darts rows) queue)
 
-abbrev pub idGuard : List ℕ → List ℕ → List ℕ → ℕ → Answer
-idGuard rows marks queue d = guardOf rows (scratchOf (length marks) (length queue)) 0 d d
+abbrev pub idGuard : List ℕ → List ℕ → List ℕ → List ℕ → ℕ → Answer
+idGuard rows marks queue flags d = guardOf rows flags (scratchOf (length marks) (length queue)) 0 d d
 
-unfoldable pub idCall : List ℕ → List ℕ → List ℕ → Class → ℕ → Outcome (List ℕ × List ℕ)
-idCall rows marks queue class d = behind (idGuard rows marks queue d) (marks, queue) (idDone rows marks queue class d)
+unfoldable pub idCall : List ℕ → List ℕ → List ℕ → List ℕ → Class → ℕ → Outcome (List ℕ × List ℕ)
+idCall rows marks queue flags class d = behind (idGuard rows marks queue flags d) (marks, queue) (idDone rows marks queue class d)
 
 -- the count is the list's own length, and the output beyond it stays as it was
 abbrev pub listDone : List ℕ → List ℕ → List ℕ → List ℕ → List ℕ → Class → Outcome (List ℕ × List ℕ × List ℕ)
@@ -30,7 +30,7 @@ listDone rows marks queue output flags class =
     (wiped (darts rows) marks, wiped (darts rows) queue, headed (listOf class rows flags) output)
 
 abbrev pub listGuard : List ℕ → List ℕ → List ℕ → List ℕ → List ℕ → Answer
-listGuard rows marks queue output flags = guardOf rows (listLoans (length marks) (length queue) (length output) (length flags)) 0 0 0
+listGuard rows marks queue output flags = guardOf rows flags (listLoans (length marks) (length queue) (length output)) 0 0 0
 
 unfoldable pub listCall : List ℕ → List ℕ → List ℕ → List ℕ → List ℕ → Class → Outcome (List ℕ × List ℕ × List ℕ)
 listCall rows marks queue output flags class =

@@ -43,12 +43,14 @@ pub fn orbit(
     rows: &[u32],
     marks: &mut [u8],
     output: &mut [u32],
+    flags: &[u8],
     policy: OrbitPolicy,
     d: u32,
 ) -> Answer
-    ensures { λ a. ⌜ outcome a (now (marks .exit), now (output .exit)) ≡ orbitCall (now (rows .entry)) (now (marks .entry)) (now (output .entry)) policy d ⌝ }
+    ensures { λ a. ⌜ outcome a (now (marks .exit), now (output .exit)) ≡ orbitCall (now (rows .entry)) (now (marks .entry)) (now (output .entry))
+        (now (flags .entry)) policy d ⌝ }
 {
-    let g = guard(rows, orbit_loans(marks.len(), output.len()), 0, d, d);
+    let g = guard(rows, flags, orbit_loans(marks.len(), output.len()), 0, d, d);
     if !is_done(g) {
         return g;
     }
@@ -78,13 +80,14 @@ pub fn orbit_custom(
     rows: &[u32],
     marks: &mut [u8],
     output: &mut [u32],
+    flags: &[u8],
     betas: &[u8],
     d: u32,
 ) -> Answer
     ensures { λ a. ⌜ outcome a (now (marks .exit), now (output .exit))
-        ≡ customCall (now (rows .entry)) (now (marks .entry)) (now (output .entry)) (now (betas .entry)) d ⌝ }
+        ≡ customCall (now (rows .entry)) (now (marks .entry)) (now (output .entry)) (now (flags .entry)) (now (betas .entry)) d ⌝ }
 {
-    let first = guard(rows, orbit_loans(marks.len(), output.len()), 0, d, d);
+    let first = guard(rows, flags, orbit_loans(marks.len(), output.len()), 0, d, d);
     if !is_done(first) {
         return first;
     }

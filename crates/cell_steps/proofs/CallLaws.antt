@@ -56,6 +56,6 @@ custom-done (b ∷ bs) t j h = go (ltb 3 b) refl (λ u. custom-done bs u) j h
     go false e more zero l = let u = ltb-false 3 b e in omega arith
     go false e more (suc i) l = more (simp e at t) i (le-of-suc-le-suc l)
 
-pub orbit-ready : (rows marks output : List ℕ) (d : ℕ) (g : Answer) → g ≡ orbitGuard rows marks output d → isDone g ≡ true →
-    Ready rows (orbitLoans (length marks) (length output)) 0 d d
-orbit-ready rows marks output d g e t = ready rows (orbitLoans (length marks) (length output)) 0 d d (ap isDone (sym e) ∙ t)
+pub orbit-ready : (rows marks output flags : List ℕ) (d : ℕ) (g : Answer) → g ≡ orbitGuard rows marks output flags d → isDone g ≡ true →
+    Ready rows flags (orbitLoans (length marks) (length output)) 0 d d
+orbit-ready rows marks output flags d g e t = ready rows flags (orbitLoans (length marks) (length output)) 0 d d (ap isDone (sym e) ∙ t)

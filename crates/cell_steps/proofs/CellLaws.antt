@@ -3,7 +3,7 @@
 --   vertex-orbit .. volume-orbit   the list of the Vertex, Edge, Face or Volume orbit has exactly the darts of the manual's cell
 --   one-ident               darts have one identifier exactly where they are in one cell
 --   ident-in, ident-first   the identifier is a dart of the cell, and the least
---   orbit-null, ident-null  the orbit of the null dart is itself alone, and its identifier 0
+--   orbit-alone, ident-alone   the orbit of a dart without an image is itself alone, and its identifier the dart
 -- That a list has no repeats, begins with its dart and is closed is in `proofs/OrbitLaws.antt`, for every list of steps. Assumes nothing.
 use Prim.Native.Nat.{ℕ, zero, suc, _+_, _/_, _%_, _≤_, _<_}
 use native.Mathlib.Omega.{arith}
@@ -14,7 +14,7 @@ use mathlib.Core.List.{List, [], _∷_, List·Memᴰ·head, List·Memᴰ·tail}
 use lib.Dec.{ltb}
 use borrow.Author.Tests.{ltb-true}
 use Rattle.map_betas.specs.Betas.{beta, darts}
-use Rattle.map_betas.specs.Maps.{WellFormed}
+use Rattle.map_betas.specs.Maps.{WellFormed, Free}
 use Rattle.cell_steps.specs.Steps.{image, IsStep, vertex, edge, face, volume}
 use Rattle.cell_steps.specs.Search.{In, visit, search, orbit}
 use Rattle.cell_steps.specs.Cgal.{Orbit, self, forth, back, vertexΦ, edgeΦ, faceΦ, volumeΦ}
@@ -74,35 +74,35 @@ face-orbit = cell-orbit face faceΦ face-serves
 pub volume-orbit : (rows : List ℕ) → WellFormed rows → (d : ℕ) → d < darts rows → (x : ℕ) → In x (orbit rows volume d) ↔ Orbit rows volumeΦ d x
 volume-orbit = cell-orbit volume volumeΦ volume-serves
 
--- ---- the null dart
+-- ---- a dart without an image, the null dart among them
 
-module _ (rows : List ℕ) (w : WellFormed rows) where
-  image-null : (c : ℕ) → IsStep c → image rows c 0 ≡ 0
+module _ (rows : List ℕ) (w : WellFormed rows) (d : ℕ) (f : Free rows d) where
+  image-alone : (c : ℕ) → IsStep c → image rows c d ≡ 0
   unfolding image IsStep
-  image-null c h = go (ltb c 16) refl
+  image-alone c h = go (ltb c 16) refl
     where
-      go : (t : Bool) → ltb c 16 ≡ t → cond t (beta rows c 0) (beta rows (c / 16) (beta rows (c % 16) 0)) ≡ 0
-      go true e = let l = ltb-true c 16 e in w .null c (omega (arith, h .0, h .1))
-      go false e = ap (beta rows (c / 16)) (w .null (c % 16) (h .1)) ∙ w .null (c / 16) (omega (arith, h .0))
+      go : (t : Bool) → ltb c 16 ≡ t → cond t (beta rows c d) (beta rows (c / 16) (beta rows (c % 16) d)) ≡ 0
+      go true e = let l = ltb-true c 16 e in f c (omega (arith, h .0, h .1))
+      go false e = ap (beta rows (c / 16)) (f (c % 16) (h .1)) ∙ w .null (c / 16) (omega (arith, h .0))
 
-  visit-null : (steps : List ℕ) → ((c : ℕ) → In c steps → IsStep c) → visit rows steps 0 (0 ∷ []) ≡ 0 ∷ []
+  visit-alone : (steps : List ℕ) → ((c : ℕ) → In c steps → IsStep c) → visit rows steps d (d ∷ []) ≡ d ∷ []
   unfolding visit
-  visit-null [] h = refl
-  visit-null (s ∷ ss) h =
-      ap (visit rows ss 0) (add-null (0 ∷ []) (image rows s 0) (image-null s (h s (List·Memᴰ·head refl))))
-      ∙ visit-null ss (λ c m. h c (List·Memᴰ·tail m))
+  visit-alone [] h = refl
+  visit-alone (s ∷ ss) h =
+      ap (visit rows ss d) (add-null (d ∷ []) (image rows s d) (image-alone s (h s (List·Memᴰ·head refl))))
+      ∙ visit-alone ss (λ c m. h c (List·Memᴰ·tail m))
 
-  pub orbit-null : (steps : List ℕ) → ((c : ℕ) → In c steps → IsStep c) → orbit rows steps 0 ≡ 0 ∷ []
+  pub orbit-alone : (steps : List ℕ) → ((c : ℕ) → In c steps → IsStep c) → orbit rows steps d ≡ d ∷ []
   unfolding orbit
-  orbit-null steps h = go (darts rows)
+  orbit-alone steps h = go (darts rows)
     where
-      go : (f : ℕ) → search rows steps f 0 (0 ∷ []) ≡ 0 ∷ []
-      go zero = search-done rows steps 0 1 (0 ∷ []) (omega arith)
-      go (suc f) =
-          search-more rows steps f 0 (0 ∷ []) (omega arith)
-          ∙ ap (search rows steps f (0 + 1)) (visit-null steps h)
-          ∙ search-done rows steps f (0 + 1) (0 ∷ []) (omega arith)
+      go : (k : ℕ) → search rows steps k 0 (d ∷ []) ≡ d ∷ []
+      go zero = search-done rows steps 0 1 (d ∷ []) (omega arith)
+      go (suc k) =
+          search-more rows steps k 0 (d ∷ []) (omega arith)
+          ∙ ap (search rows steps k (0 + 1)) (visit-alone steps h)
+          ∙ search-done rows steps k (0 + 1) (d ∷ []) (omega arith)
 
-  pub ident-null : (steps : List ℕ) → ((c : ℕ) → In c steps → IsStep c) → ident rows steps 0 ≡ 0
+  pub ident-alone : (steps : List ℕ) → ((c : ℕ) → In c steps → IsStep c) → ident rows steps d ≡ d
   unfolding ident least leastFrom
-  ident-null steps h = ap least (orbit-null steps h)
+  ident-alone steps h = ap least (orbit-alone steps h)

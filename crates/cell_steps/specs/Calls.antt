@@ -39,14 +39,14 @@ customTest (b ∷ bs) =
     let more = customTest bs in
     cond (ltb 3 b) (Refused (BadBeta b)) more
 
-abbrev pub orbitGuard : List ℕ → List ℕ → List ℕ → ℕ → Answer
-orbitGuard rows marks output d = guardOf rows (orbitLoans (length marks) (length output)) 0 d d
+abbrev pub orbitGuard : List ℕ → List ℕ → List ℕ → List ℕ → ℕ → Answer
+orbitGuard rows marks output flags d = guardOf rows flags (orbitLoans (length marks) (length output)) 0 d d
 
-unfoldable pub orbitCall : List ℕ → List ℕ → List ℕ → OrbitPolicy → ℕ → Outcome (List ℕ × List ℕ)
-orbitCall rows marks output policy d =
-    behind (orbitGuard rows marks output d) (marks, output) (orbitDone rows marks output (stepsOf policy) d)
+unfoldable pub orbitCall : List ℕ → List ℕ → List ℕ → List ℕ → OrbitPolicy → ℕ → Outcome (List ℕ × List ℕ)
+orbitCall rows marks output flags policy d =
+    behind (orbitGuard rows marks output flags d) (marks, output) (orbitDone rows marks output (stepsOf policy) d)
 
 -- an orbit by lent betas, which are tested after the darts (scope: steps, order)
-unfoldable pub customCall : List ℕ → List ℕ → List ℕ → List ℕ → ℕ → Outcome (List ℕ × List ℕ)
-customCall rows marks output betas d =
-    behind (andThen (orbitGuard rows marks output d) (customTest betas)) (marks, output) (orbitDone rows marks output betas d)
+unfoldable pub customCall : List ℕ → List ℕ → List ℕ → List ℕ → List ℕ → ℕ → Outcome (List ℕ × List ℕ)
+customCall rows marks output flags betas d =
+    behind (andThen (orbitGuard rows marks output flags d) (customTest betas)) (marks, output) (orbitDone rows marks output betas d)

@@ -1,5 +1,4 @@
 -- What an image says, as the reader hands it on.
---   flagsOf bytes n     the flags of n darts
 --   Slots               the vertex slots: a mark for each dart, and three coordinates
 --   over s m c          the slots s with further places behind them
 --   emptySlots n        no vertex at all
@@ -10,11 +9,7 @@ use mathlib.Core.List.{List, _++_}
 use lib.ListN.{set}
 use lib.Ieee.{Float, binary64, ofBits}
 use Rattle.image_words.specs.Lists.{listed}
-use Rattle.image_words.specs.Words.{bytesAt}
-use Rattle.image_form.specs.Form.{form1, flagOffset, vertexOffset, recordDart, recordCoordinate}
-
-abbrev pub flagsOf : List ℕ → ℕ → List ℕ
-flagsOf bytes n = bytesAt bytes (flagOffset form1 n) n
+use Rattle.image_form.specs.Form.{form1, vertexOffset, recordDart, recordCoordinate}
 
 pub record Slots : Type 0 where
   pub marks : List ℕ

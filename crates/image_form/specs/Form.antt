@@ -7,6 +7,7 @@
 --   headerSays f bytes k       what word k has to be
 --   rowsOf bytes n             the images of n darts, as rows
 --   flagAt bytes n d           the flag of dart d
+--   flagsOf bytes n            the flags of n darts
 --   recordAt n k               where vertex record k starts
 --   recordDart, recordCoordinate   the dart of the record at a place, and its coordinate 0, 1 or 2
 --   Header, Flags, Sound, Vertices, IsImage   the rules as laws; the crate `image_reader` has that its reader accepts exactly where they hold
@@ -17,7 +18,7 @@ use mathlib.Core.Bool.{true}
 use lib.ListN.{length, getD}
 use lib.Ieee.{Float}
 use lib.Ieee.Scale.{finite}
-use Rattle.image_words.specs.Words.{word32, coordinateAt, wordsAt}
+use Rattle.image_words.specs.Words.{word32, coordinateAt, wordsAt, bytesAt}
 
 pub record Form : Type 0 where
   pub number : ℕ
@@ -64,6 +65,9 @@ rowsOf bytes n = wordsAt bytes rowOffset (4 * n)
 
 abbrev pub flagAt : List ℕ → ℕ → ℕ → ℕ
 flagAt bytes n d = getD bytes (flagOffset form1 n + d) 0
+
+abbrev pub flagsOf : List ℕ → ℕ → List ℕ
+flagsOf bytes n = bytesAt bytes (flagOffset form1 n) n
 
 abbrev pub recordAt : ℕ → ℕ → ℕ
 recordAt n k = vertexOffset form1 n + 28 * k

@@ -16,7 +16,7 @@ use Rattle.map_betas.specs.declared.error.Answer.{Answer}
 use Rattle.map_betas.specs.declared.error.Answer.the-variants.{Done, Refused}
 use Rattle.map_betas.specs.declared.error.Refusal.the-variants.{BadImage, ShortLoan, NotAMap}
 use Rattle.map_betas.specs.Guards.{loanTest}
-use Rattle.map_betas.specs.Maps.{breaks, breachAt, firstBreach, mapTest}
+use Rattle.map_betas.specs.Maps.{breaks, breachAt, freeAt, unused, bound, firstBreach, mapTest}
 use Rattle.image_words.specs.Lists.{listed}
 use Rattle.image_words.specs.Words.{word32, word64, coordinateAt}
 use Rattle.image_form.specs.Tests.{unless, startTest, layoutTest, bitsOnly, flagsTest, recordGood, recordsGood, verticesTest}
@@ -66,14 +66,14 @@ triangle-read : read triangle ≡
     readOut (Done 0 4) (0 ∷ 0 ∷ 0 ∷ 0 ∷ 9 ∷ []) (0 ∷ 0 ∷ 0 ∷ 0 ∷ 9 ∷ []) (replicate 12 plus0 ++ (one ∷ []))
     (0 ∷ 0 ∷ 0 ∷ 0 ∷ 3 ∷ 2 ∷ 0 ∷ 0 ∷ 1 ∷ 3 ∷ 0 ∷ 0 ∷ 2 ∷ 1 ∷ 0 ∷ 0 ∷ 9 ∷ 9 ∷ [])
 unfolding readWithin wrote slotsOf putRecord putRecords imageTest blocksTest loansTest verticesTest recordsGood recordGood flagsTest bitsOnly layoutTest
-    startTest unless loanTest mapTest firstBreach breachAt breaks word32 word64 coordinateAt listed ofBits
+    startTest unless loanTest mapTest firstBreach breachAt breaks bound unused freeAt word32 word64 coordinateAt listed ofBits
 triangle-read = refl
 
 pair-read : read pair ≡
     readOut (Done 0 2) (0 ∷ 1 ∷ replicate 3 9) (0 ∷ 1 ∷ replicate 3 9) (plus0 ∷ plus0 ∷ plus0 ∷ one ∷ minus0 ∷ two ∷ replicate 7 one)
     (replicate 8 0 ++ replicate 10 9)
 unfolding readWithin wrote slotsOf putRecord putRecords imageTest blocksTest loansTest verticesTest recordsGood recordGood flagsTest bitsOnly layoutTest
-    startTest unless loanTest mapTest firstBreach breachAt breaks word32 word64 coordinateAt listed ofBits
+    startTest unless loanTest mapTest firstBreach breachAt breaks bound unused freeAt word32 word64 coordinateAt listed ofBits
 pair-read = refl
 
 -- what is wrong, and the refusal
@@ -97,13 +97,15 @@ refusals : map answer
     ∷ set pair 89 127  -- still finite
     ∷ set (set pair 88 240) 89 255  -- minus infinity
     ∷ set triangle 48 0  -- beta 1 of dart 1 is null, so that beta 0 of dart 2 does not lead back
+    ∷ set triangle 95 1  -- dart 3 unused and linked
+    ∷ set (set triangle 95 1) 48 0  -- the same, where dart 2 breaks a rule before
     ∷ [])
     ≡ Refused (BadImage 1) ∷ Refused (BadImage 0) ∷ Refused (BadImage 1) ∷ Refused (BadImage 1) ∷ Refused (BadImage 2) ∷ Refused (BadImage 2)
     ∷ Refused (BadImage 3) ∷ Refused (BadImage 4) ∷ Refused (BadImage 5) ∷ Refused (BadImage 5) ∷ Refused (BadImage 6) ∷ Refused (BadImage 7)
     ∷ Refused (BadImage 7) ∷ Refused (BadImage 8) ∷ Refused (BadImage 8) ∷ Refused (BadImage 8) ∷ Done 0 2 ∷ Refused (BadImage 8)
-    ∷ Refused (NotAMap 0 2) ∷ []
+    ∷ Refused (NotAMap 0 2) ∷ Refused (NotAMap 4 3) ∷ Refused (NotAMap 0 2) ∷ []
 unfolding readWithin wrote slotsOf putRecord putRecords imageTest blocksTest loansTest verticesTest recordsGood recordGood flagsTest bitsOnly layoutTest
-    startTest unless loanTest mapTest firstBreach breachAt breaks word32 word64 coordinateAt listed ofBits
+    startTest unless loanTest mapTest firstBreach breachAt breaks bound unused freeAt word32 word64 coordinateAt listed ofBits
 refusals = refl
 
 -- the loans, one place too short each
@@ -112,5 +114,5 @@ short : (readImage triangle (replicate 3 9) [] [] [] .answer ≡ Refused (ShortL
     × (readImage triangle (replicate 4 9) (replicate 4 9) (replicate 11 one) [] .answer ≡ Refused (ShortLoan 6))
     × (readImage triangle (replicate 4 9) (replicate 4 9) (replicate 12 one) (replicate 15 9) .answer ≡ Refused (ShortLoan 7))
 unfolding readWithin wrote slotsOf putRecord putRecords imageTest blocksTest loansTest verticesTest recordsGood recordGood flagsTest bitsOnly layoutTest
-    startTest unless loanTest mapTest firstBreach breachAt breaks word32 word64 coordinateAt listed ofBits
+    startTest unless loanTest mapTest firstBreach breachAt breaks bound unused freeAt word32 word64 coordinateAt listed ofBits
 short = (refl, refl, refl, refl)

@@ -13,8 +13,8 @@ use Rattle.map_betas.specs.declared.error.Answer.{Answer}
 use Rattle.map_betas.specs.declared.error.Answer.the-variants.{Done}
 use Rattle.map_betas.specs.Answers.{isDone}
 use Rattle.image_words.specs.Words.{bytesAt}
-use Rattle.image_form.specs.Form.{form1, flagOffset, dartsOf, verticesOf, rowsOf, recordAt, Sound, Vertices}
-use Rattle.image_fill.specs.Content.{Slots, slots, over, flagsOf, slotsOf}
+use Rattle.image_form.specs.Form.{form1, flagOffset, dartsOf, verticesOf, rowsOf, flagsOf, recordAt, Sound, Vertices}
+use Rattle.image_fill.specs.Content.{Slots, slots, over, slotsOf}
 use Rattle.image_reader.specs.Reads.{readOut, wrote, testOf, readWithin}
 
 -- n and v are what the code reads

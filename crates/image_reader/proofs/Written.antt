@@ -1,6 +1,6 @@
 -- What a reading answers and writes, in one place. Assumes nothing.
 --   slot-marks, slot-coordinates   the slots of an image are as many as its darts
---   read-iff        a reading is done exactly where the bytes are an image of a well-formed map and the loans are long enough
+--   read-iff        a reading is done exactly where the bytes are an image of a map and the loans are long enough
 --   refused-keeps   a refusal leaves every loan as it was
 --   answer-is       a reading that is done answers (0, n)
 --   rows-are, flags-are, vertices-are, coordinates-are   what the loans hold, as lists
@@ -23,10 +23,10 @@ use Rattle.map_betas.specs.Answers.{isDone}
 use Rattle.map_betas.specs.Betas.{beta}
 use Rattle.image_words.specs.Words.{word32}
 use Rattle.image_words.proofs.Filled.{listed-length, listed-get}
-use Rattle.image_form.specs.Form.{form1, flagOffset, vertexOffset, dartsOf, verticesOf, rowsOf, flagAt, recordAt, recordDart, recordCoordinate}
-use Rattle.image_fill.specs.Content.{slots, plusZero, noMarks, noCoordinates, emptySlots, flagsOf, slotsOf}
+use Rattle.image_form.specs.Form.{form1, vertexOffset, dartsOf, verticesOf, rowsOf, flagAt, flagsOf, recordAt, recordDart, recordCoordinate}
+use Rattle.image_fill.specs.Content.{slots, plusZero, noMarks, noCoordinates, emptySlots, slotsOf}
 use Rattle.image_reader.specs.Reads.{Read, readOut, wrote, testOf, readWithin, readImage, Accepted}
-use Rattle.image_form.proofs.StoredLaws.{rows-length, stored-is}
+use Rattle.image_form.proofs.StoredLaws.{rows-length, stored-is, flags-length, flag-is}
 use Rattle.image_fill.proofs.SlotLaws.{Holds, marks-length, coordinates-length, many-other, many-named}
 use Rattle.image_reader.proofs.Accepted.{accepted-by, accepts}
 
@@ -133,13 +133,10 @@ module _ (most : ℕ) (bytes flags vertices : List ℕ) (coordinates : List Floa
     pub flags-say : (d : ℕ) → d < n → getD (after .loans .flags) d 0 ≡ flagAt bytes n d
     flags-say d h =
         ap (λ (l : List ℕ). getD l d 0) flags-are
-        ∙ front (flagsOf bytes n) flags n d 0 (listed-length (λ (k : ℕ). getD bytes (flagOffset form1 n + k) 0) n) h
-        ∙ listed-get (λ (k : ℕ). getD bytes (flagOffset form1 n + k) 0) 0 n d h
+        ∙ front (flagsOf bytes n) flags n d 0 (flags-length bytes n) h ∙ sym (flag-is bytes n d h)
 
     pub flags-keep : (k : ℕ) → n ≤ k → getD (after .loans .flags) k 0 ≡ getD flags k 0
-    flags-keep k h =
-        ap (λ (l : List ℕ). getD l k 0) flags-are
-        ∙ behind (flagsOf bytes n) flags n k 0 (listed-length (λ (j : ℕ). getD bytes (flagOffset form1 n + j) 0) n) h
+    flags-keep k h = ap (λ (l : List ℕ). getD l k 0) flags-are ∙ behind (flagsOf bytes n) flags n k 0 (flags-length bytes n) h
 
     pub vertices-keep : (k : ℕ) → n ≤ k → getD (after .loans .vertices) k 0 ≡ getD vertices k 0
     vertices-keep k h =

@@ -12,11 +12,11 @@ use lib.Ieee.{Float}
 use Rattle.map_betas.specs.declared.error.Answer.{Answer}
 use Rattle.map_betas.specs.declared.error.Answer.the-variants.{Done}
 use Rattle.map_betas.specs.Answers.{Outcome, outcome, behind}
-use Rattle.map_betas.specs.Maps.{WellFormed}
-use Rattle.image_form.specs.Form.{dartsOf, verticesOf, rowsOf, IsImage}
+use Rattle.map_betas.specs.Maps.{Map}
+use Rattle.image_form.specs.Form.{dartsOf, verticesOf, rowsOf, flagsOf, IsImage}
 use Rattle.map_betas.specs.Guards.{readerLoans}
 use Rattle.image_reader.specs.Tests.{imageTest}
-use Rattle.image_fill.specs.Content.{flagsOf, slotsOf}
+use Rattle.image_fill.specs.Content.{slotsOf}
 
 pub record Loaded : Type 0 where
   pub flags : List ℕ
@@ -42,7 +42,7 @@ wrote bytes n v flags vertices coordinates rows =
 
 abbrev pub testOf : ℕ → List ℕ → List ℕ → List ℕ → List Float → List ℕ → Answer
 testOf most bytes flags vertices coordinates rows =
-    imageTest most bytes (readerLoans (length flags) (length vertices) (length coordinates)) (length rows)
+    imageTest most bytes (length flags) (readerLoans (length vertices) (length coordinates)) (length rows)
 
 -- scope: reader. A refusal of any test leaves every loan.
 unfoldable pub readWithin : ℕ → List ℕ → List ℕ → List ℕ → List Float → List ℕ → Read
@@ -56,7 +56,7 @@ readImage = readWithin 1048576
 
 pub record Accepted (most : ℕ) (bytes flags vertices : List ℕ) (coordinates : List Float) (rows : List ℕ) : Type 0 where
   pub image : IsImage most bytes
-  pub formed : WellFormed (rowsOf bytes (dartsOf bytes))
+  pub map : Map (rowsOf bytes (dartsOf bytes)) (flagsOf bytes (dartsOf bytes))
   pub flagRoom : dartsOf bytes ≤ length flags
   pub markRoom : dartsOf bytes ≤ length vertices
   pub coordinateRoom : 3 * dartsOf bytes ≤ length coordinates

@@ -1,6 +1,6 @@
 -- What refuses an image with its loans: all tests, in order.
---   loansTest n loans rows   ShortLoan
---   blocksTest bytes n v   flags, vertices, rows
+--   loansTest n flags loans rows   ShortLoan; flags and rows are the lengths of these loans
+--   blocksTest bytes n v   flags, vertices, then rows and flags as a map
 --   imageTest              all of them
 use Prim.Native.Nat.{ℕ, _*_}
 use mathlib.Core.List.{List}
@@ -13,17 +13,17 @@ use Rattle.map_betas.specs.declared.loans.Loans.{Loans}
 use Rattle.map_betas.specs.Answers.{pass, andThen}
 use Rattle.map_betas.specs.Guards.{loanTest}
 use Rattle.map_betas.specs.Maps.{mapTest}
-use Rattle.image_form.specs.Form.{dartsOf, verticesOf, rowsOf}
+use Rattle.image_form.specs.Form.{dartsOf, verticesOf, rowsOf, flagsOf}
 use Rattle.image_form.specs.Tests.{headerTest, flagsTest, verticesTest}
 
-unfoldable pub loansTest : ℕ → Loans → ℕ → Answer
-loansTest n loans rows = andThen (loanTest n loans) (cond (ltb rows (4 * n)) (Refused (ShortLoan 7)) pass)
+unfoldable pub loansTest : ℕ → ℕ → Loans → ℕ → Answer
+loansTest n flags loans rows = andThen (loanTest n flags loans) (cond (ltb rows (4 * n)) (Refused (ShortLoan 7)) pass)
 
--- what the blocks are asked, in this order: flags, records, rows (scope: reader)
+-- what the blocks are asked, in this order: flags, records, the map (scope: reader)
 unfoldable pub blocksTest : List ℕ → ℕ → ℕ → Answer
-blocksTest bytes n v = andThen (flagsTest bytes n) (andThen (verticesTest bytes n v) (mapTest (rowsOf bytes n)))
+blocksTest bytes n v = andThen (flagsTest bytes n) (andThen (verticesTest bytes n v) (mapTest (rowsOf bytes n) (flagsOf bytes n)))
 
-unfoldable pub imageTest : ℕ → List ℕ → Loans → ℕ → Answer
-imageTest most bytes loans rows =
+unfoldable pub imageTest : ℕ → List ℕ → ℕ → Loans → ℕ → Answer
+imageTest most bytes flags loans rows =
     andThen (headerTest most bytes)
-    (andThen (loansTest (dartsOf bytes) loans rows) (blocksTest bytes (dartsOf bytes) (verticesOf bytes)))
+    (andThen (loansTest (dartsOf bytes) flags loans rows) (blocksTest bytes (dartsOf bytes) (verticesOf bytes)))

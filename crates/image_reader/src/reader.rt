@@ -29,11 +29,11 @@ ghost use Rattle.image_fill.specs.Content.{slots, over, slotsOf};
 ghost use Rattle.image_reader.specs.Reads.{readOut, readWithin, readImage};
 
 // Refuses the first loan that is too short for n darts; the rows, the reader's own, come last.
-fn loans_test(n: usize, loans: Loans, rows: usize) -> Answer
+fn loans_test(n: usize, flags: usize, loans: Loans, rows: usize) -> Answer
     requires { ⌜ n ≤ 1048576 ⌝ }
-    ensures { λ r. ⌜ r ≡ loansTest n loans rows ⌝ }
+    ensures { λ r. ⌜ r ≡ loansTest n flags loans rows ⌝ }
 {
-    let t = loan_test(n, loans);
+    let t = loan_test(n, flags, loans);
     if !is_done(t) {
         return t;
     }
@@ -43,7 +43,7 @@ fn loans_test(n: usize, loans: Loans, rows: usize) -> Answer
     Answer::Done(0, 0)
 }
 
-// Refuses flags, then vertex records, then rows that break a rule.
+// Refuses flags, then vertex records, then darts that break a rule.
 fn blocks_test(bytes: &[u8], n: u32, v: u32) -> Answer
     requires { ⌜ (1 ≤ n) × (n ≤ 1048576) × (totalBytes form1 n v ≤ length (now bytes)) ⌝ }
     ensures { λ r. ⌜ r ≡ blocksTest (now (bytes .entry)) n v ⌝ }
@@ -60,16 +60,16 @@ fn blocks_test(bytes: &[u8], n: u32, v: u32) -> Answer
 }
 
 // All tests of an image of at most `most` darts and of the loans, in order.
-fn image_test(bytes: &[u8], most: u32, loans: Loans, rows: usize) -> Answer
+fn image_test(bytes: &[u8], most: u32, flags: usize, loans: Loans, rows: usize) -> Answer
     requires { ⌜ most ≤ 1048576 ⌝ }
-    ensures { λ r. ⌜ r ≡ imageTest most (now (bytes .entry)) loans rows ⌝ }
+    ensures { λ r. ⌜ r ≡ imageTest most (now (bytes .entry)) flags loans rows ⌝ }
 {
     let h = header_test(bytes, most);
     if !is_done(h) {
         return h;
     }
     let n = word_at(bytes, DARTS_AT);
-    let l = loans_test(n as usize, loans, rows);
+    let l = loans_test(n as usize, flags, loans, rows);
     if !is_done(l) {
         return l;
     }
@@ -108,8 +108,8 @@ pub fn read_within(
     ensures { λ a. ⌜ readOut a (now (flags .exit)) (now (vertices .exit)) (now (coordinates .exit)) (now (rows .exit))
         ≡ readWithin most (now (bytes .entry)) (now (flags .entry)) (now (vertices .entry)) (now (coordinates .entry)) (now (rows .entry)) ⌝ }
 {
-    let loans = reader_loans(flags.len(), vertices.len(), coordinates.len());
-    let t = image_test(bytes, most, loans, rows.len());
+    let loans = reader_loans(vertices.len(), coordinates.len());
+    let t = image_test(bytes, most, flags.len(), loans, rows.len());
     if !is_done(t) {
         return t;
     }

@@ -124,7 +124,7 @@ module _ (rows flags vertices : List ℕ) (coordinates : List Float) (w : Writab
   unfolding imageOf
   flag-byte d h =
       let l = flags-length rows flags vertices coordinates w in
-      let t = length-take-le n flags (w .flagRoom) in
+      let t = length-take-le n flags (w .map .flagged) in
       let a : 28 + 16 * n + d ≡ 28 + (16 * n + d) = omega arith in
       let b : d ≡ 1 * d + 0 = omega arith in
       ap (λ (q : ℕ). getD (H ++ (R ++ (F ++ P))) q 0) a ∙ right H (R ++ (F ++ P)) 28 (16 * n + d) (header-length rows flags vertices coordinates w)
@@ -151,7 +151,7 @@ module _ (rows flags vertices : List ℕ) (coordinates : List Float) (w : Writab
   row-says k h =
       let a : 4 * 0 + k ≡ k = omega arith in
       let s = sizes rows flags vertices coordinates w .1 in
-      let b : getD rows k 0 < n = subst (λ (q : ℕ). getD rows q 0 < n) a (w .formed .below k 0) in
+      let b : getD rows k 0 < n = subst (λ (q : ℕ). getD rows q 0 < n) a (w .map .formed .below k 0) in
       word-of image (28 + 4 * k) (getD rows k 0) (omega arith) (λ i j. row-byte k i h j)
 
   pub flag-says : (d : ℕ) → d < n → flagAt image n d ≡ bitOf (getD flags d 0)

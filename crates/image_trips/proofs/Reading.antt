@@ -1,6 +1,7 @@
 -- What the reader makes of an image that was written. Assumes nothing.
 --   darts-is, vertices-is   how many darts and records it says
 --   header, flags-fine, vertices-fine, rows-is   its blocks are as they have to be
+--   map-fine                its rows and flags are a map
 --   accepted                the reader accepts it, with loans that are long enough
 --   back                    and gives back what was written
 use Prim.Native.Nat.{ℕ, _+_, _*_, _-_, _<_, _≤_}
@@ -17,11 +18,12 @@ use lib.Ieee.Scale.{finite}
 use borrow.Author.Tests.{eq-eqb, ne-eqb}
 use Rattle.map_betas.specs.declared.error.Answer.the-variants.{Done}
 use Rattle.map_betas.specs.Betas.{darts}
-use Rattle.map_betas.specs.Maps.{WellFormed}
+use Rattle.map_betas.specs.Maps.{Map}
 use Rattle.image_words.specs.Words.{word32}
 use Rattle.image_words.proofs.Filled.{listed-length, listed-get}
 use Rattle.image_form.specs.Form.{form1, flagOffset, vertexOffset, totalBytes, dartsOf, verticesOf, rowsOf, flagAt, recordAt, recordDart, recordCoordinate}
-use Rattle.image_form.specs.Form.{Header, Flags, Vertices}
+use Rattle.image_form.specs.Form.{flagsOf, Header, Flags, Vertices}
+use Rattle.image_form.proofs.StoredLaws.{flags-length, flag-is}
 use Rattle.image_reader.specs.Reads.{Read, readImage, Accepted}
 use Rattle.image_reader.proofs.Written.{answer-is, rows-are, flags-say, vertex-says, no-vertex-says}
 use Rattle.image_blocks.specs.Image.{bitOf, points, imageOf}
@@ -29,6 +31,7 @@ use Rattle.image_blocks.proofs.PointLaws.{bit-few, finite-at, point-parts}
 use Rattle.image_writer.specs.Writes.{Writable}
 use Rattle.image_writer.proofs.WriteLaws.{sizes, image-length}
 use Rattle.image_trips.specs.Trips.{Doubles, GivenBack}
+use Rattle.image_trips.proofs.Flagged.{other-flags}
 use Rattle.image_trips.proofs.Slots.{at-points, points-ascend, points-named}
 use Rattle.image_trips.proofs.Image.{header-says, row-says, flag-says, dart-says, coordinate-says}
 
@@ -144,6 +147,14 @@ module _ (rows flags vertices : List ℕ) (coordinates : List Float) (w : Writab
       ext-getD 0 (rowsOf image n) rows (omega arith) (λ i h.
       listed-get (λ (k : ℕ). word32 image (28 + 4 * k)) 0 (4 * n) i (omega arith) ∙ row-says rows flags vertices coordinates w i (omega arith))
 
+  -- a flag that is 0 is stored as 0
+  map-fine : Map (rowsOf image n) (flagsOf image n)
+  map-fine =
+      let l = flags-length image n in
+      subst (λ (r : List ℕ). Map r (flagsOf image n)) (sym rows-is)
+      (other-flags rows flags (flagsOf image n) (w .map) (omega arith) (λ d h z.
+      sym (flag-is image n d h) ∙ flag-says rows flags vertices coordinates w d h ∙ bit-none (getD flags d 0) z))
+
   -- ---- what is read into loans that are long enough
 
   module _ (flags′ vertices′ : List ℕ) (coordinates′ : List Float) (rows′ : List ℕ) (a : n ≤ length flags′) (b : n ≤ length vertices′)
@@ -159,7 +170,7 @@ module _ (rows flags vertices : List ℕ) (coordinates : List Float) (w : Writab
                 vertices =
                     subst (λ (m : ℕ). Vertices image m (verticesOf image)) (sym e) (subst (Vertices image n) (sym vertices-is) vertices-fine);
               };
-          formed = subst (λ (m : ℕ). WellFormed (rowsOf image m)) (sym e) (subst WellFormed (sym rows-is) (w .formed));
+          map = subst (λ (m : ℕ). Map (rowsOf image m) (flagsOf image m)) (sym e) map-fine;
           flagRoom = omega arith;
           markRoom = omega arith;
           coordinateRoom = omega arith;

@@ -15,13 +15,14 @@ use lib.Ieee.{Float, nan, binary64, toBits}
 use lib.Ieee.Scale.{finite}
 use borrow.Author.Tests.{eq-eqb, ne-eqb}
 use Rattle.map_betas.specs.Betas.{darts}
+use Rattle.map_betas.specs.Maps.{Map}
 use Rattle.image_words.specs.Lists.{listed}
 use Rattle.image_words.specs.Words.{word32, word64, coordinateAt}
 use Rattle.image_words.proofs.Filled.{listed-length, listed-get}
 use Rattle.image_form.specs.Form.{form1, headerWords, headerWord, dartsOf, verticesOf, rowsOf, flagAt, recordAt, recordDart, recordCoordinate}
-use Rattle.image_form.specs.Form.{flagOffset, totalBytes}
-use Rattle.image_form.proofs.StoredLaws.{rows-darts}
-use Rattle.image_fill.specs.Content.{flagsOf, slotsOf}
+use Rattle.image_form.specs.Form.{flagOffset, totalBytes, flagsOf}
+use Rattle.image_form.proofs.StoredLaws.{rows-darts, flags-length, flag-is}
+use Rattle.image_fill.specs.Content.{slotsOf}
 use Rattle.image_reader.specs.Reads.{Read, readImage, Accepted}
 use Rattle.image_reader.proofs.Written.{slot-marks, slot-coordinates, flags-are, vertices-are, coordinates-are, flags-say, vertex-says, no-vertex-says}
 use Rattle.image_store.specs.Stores.{stored, numberAt, coordinate, Bytes}
@@ -30,6 +31,7 @@ use Rattle.image_blocks.specs.Image.{bitOf, points, pointFinite, recordBytes, i
 use Rattle.image_blocks.proofs.PointLaws.{point-none, point-whole, finite-all}
 use Rattle.image_writer.specs.Writes.{Writable}
 use Rattle.image_writer.proofs.WriteLaws.{image-length}
+use Rattle.image_trips.proofs.Flagged.{other-flags}
 use Rattle.image_trips.proofs.Slots.{find, points-listed}
 use Rattle.image_trips.proofs.Image.{dart-byte, coordinate-byte, header-byte, row-byte, flag-byte, record-byte}
 
@@ -74,7 +76,7 @@ module _ (bytes flags vertices : List ℕ) (coordinates : List Float) (rows : Li
   flags-long =
       let l = ap length (flags-are 1048576 bytes flags vertices coordinates rows enough a) in
       let m = length-append (flagsOf bytes n) (drop n flags) in
-      let k = listed-length (λ (j : ℕ). getD bytes (flagOffset form1 n + j) 0) n in
+      let k = flags-length bytes n in
       omega arith
 
   marks-long : n ≤ length ms
@@ -116,16 +118,22 @@ module _ (bytes flags vertices : List ℕ) (coordinates : List Float) (rows : Li
       none : ((j : ℕ) → j < v → dart j ≢ d) → pointFinite ms cs d ≡ true
       none q = sym (point-none ms cs d (other d h q))
 
+  -- the flags that were read are the image's, with further places behind them
+  map-read : Map R fs
+  map-read =
+      let e = darts-are in
+      let l = flags-long in
+      other-flags R (flagsOf bytes n) fs (a .map) (omega arith) (λ d h z.
+      flags-say 1048576 bytes flags vertices coordinates rows enough a d (omega arith) ∙ flag-is bytes n d (omega arith) ∙ z)
+
   pub writable : Writable R fs ms cs
   writable =
       let e = darts-are in
       let s = a .image .header .some in
-      let l = flags-long in
       let m = marks-long in
       let k = coordinates-long in
       record {
-        formed = a .formed;
-        flagRoom = omega arith;
+        map = map-read;
         markRoom = omega arith;
         coordinateRoom = omega arith;
         null = flags-say 1048576 bytes flags vertices coordinates rows enough a 0 (omega arith) ∙ a .image .flags .null;

@@ -37,7 +37,7 @@ use Rattle.image_writer.specs.Writes.{writeTest, written, writeImage, Wr
 
 module _ (rows flags vertices : List ℕ) (coordinates : List Float) where
   abbrev guarded : Answer
-  guarded = guardOf rows (readerLoans (length flags) (length vertices) (length coordinates)) 0 0 0
+  guarded = guardOf rows flags (readerLoans (length vertices) (length coordinates)) 0 0 0
 
   abbrev after : Answer
   after = unless (eqb (getD flags 0 0) 0) 7 (unless (finiteFrom vertices coordinates 1 (darts rows - 1)) 8 pass)
@@ -79,20 +79,19 @@ module _ (rows flags vertices : List ℕ) (coordinates : List Float) where
     pub guard-facts : (1 ≤ darts rows) × (darts rows ≤ 1048576) × (darts rows ≤ length flags) × (darts rows ≤ length vertices)
         × (3 * darts rows ≤ length coordinates)
     guard-facts =
-        let r : Ready rows (readerLoans (length flags) (length vertices) (length coordinates)) 0 0 0 = ready rows _ 0 0 0 (sym (ap isDone e) ∙ t) in
-        (r .formed .sized .some, r .formed .sized .few, r .lent .flags, r .lent .vertices, r .lent .coordinates)
+        let r : Ready rows flags (readerLoans (length vertices) (length coordinates)) 0 0 0 = ready rows flags _ 0 0 0 (sym (ap isDone e) ∙ t) in
+        (r .map .formed .sized .some, r .map .formed .sized .few, r .map .flagged, r .lent .vertices, r .lent .coordinates)
 
   -- ---- where it passes
 
   pub writable : isDone (writeTest rows flags vertices coordinates) ≡ true → Writable rows flags vertices coordinates
   unfolding writeTest unless
   writable t =
-      let r : Ready rows (readerLoans (length flags) (length vertices) (length coordinates)) 0 0 0 = ready rows _ 0 0 0 (first-done guarded after t) in
+      let r : Ready rows flags (readerLoans (length vertices) (length coordinates)) 0 0 0 = ready rows flags _ 0 0 0 (first-done guarded after t) in
       let s : isDone after ≡ true = then-done guarded after t in
       let p = parts (eqb (getD flags 0 0) 0) (finiteFrom vertices coordinates 1 (darts rows - 1)) s in
       record {
-        formed = r .formed;
-        flagRoom = r .lent .flags;
+        map = r .map;
         markRoom = r .lent .vertices;
         coordinateRoom = r .lent .coordinates;
         null = eqb-true (getD flags 0 0) 0 (p .0);
@@ -106,21 +105,23 @@ module _ (rows flags vertices : List ℕ) (coordinates : List Float) where
 
   pub passes : Writable rows flags vertices coordinates → writeTest rows flags vertices coordinates ≡ pass
   passes w =
-      let s = w .formed .sized .some in
+      let s = w .map .formed .sized .some in
+      let f = w .map .formed .sized .few in
       let g : guarded ≡ pass =
-      guard-iff rows (readerLoans (length flags) (length vertices) (length coordinates)) 0 0 0 .1
+      guard-iff rows flags (readerLoans (length vertices) (length coordinates)) 0 0 0 .1
       (record {
-        formed = w .formed;
+        map = w .map;
         lent = record {
-          marks = (let f = w .formed .sized .few in omega arith);
-          queue = (let f = w .formed .sized .few in omega arith);
-          output = (let f = w .formed .sized .few in omega arith);
-          flags = w .flagRoom;
+          marks = omega arith;
+          queue = omega arith;
+          output = omega arith;
           vertices = w .markRoom;
           coordinates = w .coordinateRoom;
         };
         left = record { allowed = omega arith; below = omega arith };
         right = record { allowed = omega arith; below = omega arith };
+        usedLeft = λ h. absurd (omega arith);
+        usedRight = λ h. absurd (omega arith);
       }) in
       sym (test-passes guarded refl (ap isDone g) (w .null) (w .finite))
 
@@ -142,12 +143,12 @@ module _ (rows flags vertices : List ℕ) (coordinates : List Float) (w : Writab
   v = length (points vertices (n - 1))
 
   pub rows-length : length (words rows) ≡ 16 * n
-  rows-length = let a = each-length (stored 4) 4 (stored-length 4) rows in let b = w .formed .sized .whole in omega arith
+  rows-length = let a = each-length (stored 4) 4 (stored-length 4) rows in let b = w .map .formed .sized .whole in omega arith
 
   pub flags-length : length (storedEach bit (take n flags)) ≡ n
   flags-length =
       let a = each-length bit 1 (λ (x : ℕ). refl) (take n flags) in
-      let b = length-take-le n flags (w .flagRoom) in
+      let b = length-take-le n flags (w .map .flagged) in
       omega arith
 
   pub header-length : length (words (headerWords form1 n v)) ≡ 28
@@ -183,7 +184,7 @@ module _ (rows flags vertices : List ℕ) (coordinates : List Float) (w : Writab
 
   pub sizes : (1 ≤ n) × (n ≤ 1048576) × (length rows ≡ 4 * n) × (v < n)
   sizes =
-      let s = w .formed .sized in
+      let s = w .map .formed .sized in
       let a = s .some in
       let b = points-few vertices (n - 1) in
       (a, s .few, s .whole, omega arith)

@@ -15,16 +15,16 @@ use Rattle.map_betas.specs.declared.error.Answer.{Answer}
 use Rattle.map_betas.specs.declared.error.Answer.the-variants.{Done, Refused}
 use Rattle.map_betas.specs.declared.error.Refusal.the-variants.{ImageRoom}
 use Rattle.map_betas.specs.Betas.{darts}
-use Rattle.map_betas.specs.Maps.{WellFormed}
+use Rattle.map_betas.specs.Maps.{Map}
 use Rattle.map_betas.specs.Answers.{Outcome, outcome, pass, andThen, behind}
 use Rattle.map_betas.specs.Guards.{readerLoans, guardOf}
 use Rattle.image_form.specs.Tests.{unless}
 use Rattle.image_blocks.specs.Image.{finiteFrom, imageOf}
 
--- scope: writer. The rows and the loans, then the flag of dart 0, then the points.
+-- scope: writer. The map and the loans, then the flag of dart 0, then the points.
 unfoldable pub writeTest : List ℕ → List ℕ → List ℕ → List Float → Answer
 writeTest rows flags vertices coordinates =
-    andThen (guardOf rows (readerLoans (length flags) (length vertices) (length coordinates)) 0 0 0)
+    andThen (guardOf rows flags (readerLoans (length vertices) (length coordinates)) 0 0 0)
     (unless (eqb (getD flags 0 0) 0) 7 (unless (finiteFrom vertices coordinates 1 (darts rows - 1)) 8 pass))
 
 -- scope: writer. How many bytes it is, laid or not.
@@ -37,8 +37,7 @@ writeImage rows flags vertices coordinates bytes =
     behind (writeTest rows flags vertices coordinates) bytes (written (imageOf rows flags vertices coordinates) bytes)
 
 pub record Writable (rows flags vertices : List ℕ) (coordinates : List Float) : Type 0 where
-  pub formed : WellFormed rows
-  pub flagRoom : darts rows ≤ length flags
+  pub map : Map rows flags
   pub markRoom : darts rows ≤ length vertices
   pub coordinateRoom : 3 * darts rows ≤ length coordinates
   pub null : getD flags 0 0 ≡ 0

@@ -23,12 +23,12 @@ ghost use Rattle.map_betas.specs.Answers.{outcome};
 ghost use Rattle.image_blocks.specs.Image.{points, imageOf};
 ghost use Rattle.image_writer.specs.Writes.{writeTest, written, writeImage, Writable};
 
-// Refuses rows that are no map, loans that are too short, a null dart that is unused, a point that is not finite.
+// Refuses rows and flags that are no map, loans that are too short, a null dart that is unused, a point that is not finite.
 fn write_test(rows: &[u32], flags: &[u8], vertices: &[u8], coordinates: &[f64]) -> Answer
     ensures { λ r. ⌜ r ≡ writeTest (now (rows .entry)) (now (flags .entry)) (now (vertices .entry)) (now (coordinates .entry)) ⌝ }
 {
-    let loans = reader_loans(flags.len(), vertices.len(), coordinates.len());
-    let g = guard(rows, loans, 0, 0, 0);
+    let loans = reader_loans(vertices.len(), coordinates.len());
+    let g = guard(rows, flags, loans, 0, 0, 0);
     if !is_done(g) {
         return g;
     }

@@ -11,6 +11,7 @@ pub extern "C" fn inkcapper_commands(
     marks: &mut [u8],
     queue: &mut [u32],
     output: &mut [u32],
+    flags: &[u8],
     vertices: &[u8],
     coordinates: &[f64],
     plan: &mut [u32],
@@ -18,8 +19,8 @@ pub extern "C" fn inkcapper_commands(
     values: &mut [u64; 3],
 ) -> u32
     ensures { λ r. ⌜ crossing r (now (values .exit)) (now (rows .exit), now (marks .exit), now (queue .exit), now (output .exit), now (plan .exit))
-        ≡ crossed (commandsOf (now (rows .entry)) (now (marks .entry)) (now (queue .entry)) (now (output .entry)) (now (vertices .entry))
-        (now (coordinates .entry)) (now (plan .entry)) (now (commands .entry))) ⌝ }
+        ≡ crossed (commandsOf (now (rows .entry)) (now (marks .entry)) (now (queue .entry)) (now (output .entry)) (now (flags .entry))
+        (now (vertices .entry)) (now (coordinates .entry)) (now (plan .entry)) (now (commands .entry))) ⌝ }
 {
     hand_on(
         sew_list_calls::commands::commands(
@@ -27,6 +28,7 @@ pub extern "C" fn inkcapper_commands(
             marks,
             queue,
             output,
+            flags,
             vertices,
             coordinates,
             plan,

@@ -11,14 +11,15 @@ pub extern "C" fn inkcapper_vertex_id(
     rows: &[u32],
     marks: &mut [u8],
     queue: &mut [u32],
+    flags: &[u8],
     d: u32,
     values: &mut [u64; 3],
 ) -> u32
     ensures { λ r. ⌜ crossing r (now (values .exit)) (now (marks .exit), now (queue .exit))
-        ≡ crossed (idCall (now (rows .entry)) (now (marks .entry)) (now (queue .entry)) Vertex d) ⌝ }
+        ≡ crossed (idCall (now (rows .entry)) (now (marks .entry)) (now (queue .entry)) (now (flags .entry)) Vertex d) ⌝ }
 {
     hand_on(
-        cell_calls::basic_ops::vertex_id(rows, marks, queue, d),
+        cell_calls::basic_ops::vertex_id(rows, marks, queue, flags, d),
         values,
     )
 }
@@ -29,14 +30,15 @@ pub extern "C" fn inkcapper_edge_id(
     rows: &[u32],
     marks: &mut [u8],
     queue: &mut [u32],
+    flags: &[u8],
     d: u32,
     values: &mut [u64; 3],
 ) -> u32
     ensures { λ r. ⌜ crossing r (now (values .exit)) (now (marks .exit), now (queue .exit))
-        ≡ crossed (idCall (now (rows .entry)) (now (marks .entry)) (now (queue .entry)) Edge d) ⌝ }
+        ≡ crossed (idCall (now (rows .entry)) (now (marks .entry)) (now (queue .entry)) (now (flags .entry)) Edge d) ⌝ }
 {
     hand_on(
-        cell_calls::basic_ops::edge_id(rows, marks, queue, d),
+        cell_calls::basic_ops::edge_id(rows, marks, queue, flags, d),
         values,
     )
 }
@@ -47,14 +49,15 @@ pub extern "C" fn inkcapper_face_id(
     rows: &[u32],
     marks: &mut [u8],
     queue: &mut [u32],
+    flags: &[u8],
     d: u32,
     values: &mut [u64; 3],
 ) -> u32
     ensures { λ r. ⌜ crossing r (now (values .exit)) (now (marks .exit), now (queue .exit))
-        ≡ crossed (idCall (now (rows .entry)) (now (marks .entry)) (now (queue .entry)) Face d) ⌝ }
+        ≡ crossed (idCall (now (rows .entry)) (now (marks .entry)) (now (queue .entry)) (now (flags .entry)) Face d) ⌝ }
 {
     hand_on(
-        cell_calls::basic_ops::face_id(rows, marks, queue, d),
+        cell_calls::basic_ops::face_id(rows, marks, queue, flags, d),
         values,
     )
 }
@@ -65,14 +68,15 @@ pub extern "C" fn inkcapper_volume_id(
     rows: &[u32],
     marks: &mut [u8],
     queue: &mut [u32],
+    flags: &[u8],
     d: u32,
     values: &mut [u64; 3],
 ) -> u32
     ensures { λ r. ⌜ crossing r (now (values .exit)) (now (marks .exit), now (queue .exit))
-        ≡ crossed (idCall (now (rows .entry)) (now (marks .entry)) (now (queue .entry)) Volume d) ⌝ }
+        ≡ crossed (idCall (now (rows .entry)) (now (marks .entry)) (now (queue .entry)) (now (flags .entry)) Volume d) ⌝ }
 {
     hand_on(
-        cell_calls::basic_ops::volume_id(rows, marks, queue, d),
+        cell_calls::basic_ops::volume_id(rows, marks, queue, flags, d),
         values,
     )
 }

@@ -12,14 +12,15 @@ pub extern "C" fn inkcapper_orbit_vertex(
     rows: &[u32],
     marks: &mut [u8],
     output: &mut [u32],
+    flags: &[u8],
     d: u32,
     values: &mut [u64; 3],
 ) -> u32
     ensures { λ r. ⌜ crossing r (now (values .exit)) (now (marks .exit), now (output .exit))
-        ≡ crossed (orbitCall (now (rows .entry)) (now (marks .entry)) (now (output .entry)) Vertex d) ⌝ }
+        ≡ crossed (orbitCall (now (rows .entry)) (now (marks .entry)) (now (output .entry)) (now (flags .entry)) Vertex d) ⌝ }
 {
     hand_on(
-        cell_orbits::orbits::orbit(rows, marks, output, OrbitPolicy::Vertex, d),
+        cell_orbits::orbits::orbit(rows, marks, output, flags, OrbitPolicy::Vertex, d),
         values,
     )
 }
@@ -30,14 +31,15 @@ pub extern "C" fn inkcapper_orbit_vertex_linear(
     rows: &[u32],
     marks: &mut [u8],
     output: &mut [u32],
+    flags: &[u8],
     d: u32,
     values: &mut [u64; 3],
 ) -> u32
     ensures { λ r. ⌜ crossing r (now (values .exit)) (now (marks .exit), now (output .exit))
-        ≡ crossed (orbitCall (now (rows .entry)) (now (marks .entry)) (now (output .entry)) VertexLinear d) ⌝ }
+        ≡ crossed (orbitCall (now (rows .entry)) (now (marks .entry)) (now (output .entry)) (now (flags .entry)) VertexLinear d) ⌝ }
 {
     hand_on(
-        cell_orbits::orbits::orbit(rows, marks, output, OrbitPolicy::VertexLinear, d),
+        cell_orbits::orbits::orbit(rows, marks, output, flags, OrbitPolicy::VertexLinear, d),
         values,
     )
 }
@@ -48,14 +50,15 @@ pub extern "C" fn inkcapper_orbit_edge(
     rows: &[u32],
     marks: &mut [u8],
     output: &mut [u32],
+    flags: &[u8],
     d: u32,
     values: &mut [u64; 3],
 ) -> u32
     ensures { λ r. ⌜ crossing r (now (values .exit)) (now (marks .exit), now (output .exit))
-        ≡ crossed (orbitCall (now (rows .entry)) (now (marks .entry)) (now (output .entry)) Edge d) ⌝ }
+        ≡ crossed (orbitCall (now (rows .entry)) (now (marks .entry)) (now (output .entry)) (now (flags .entry)) Edge d) ⌝ }
 {
     hand_on(
-        cell_orbits::orbits::orbit(rows, marks, output, OrbitPolicy::Edge, d),
+        cell_orbits::orbits::orbit(rows, marks, output, flags, OrbitPolicy::Edge, d),
         values,
     )
 }
@@ -66,14 +69,15 @@ pub extern "C" fn inkcapper_orbit_face(
     rows: &[u32],
     marks: &mut [u8],
     output: &mut [u32],
+    flags: &[u8],
     d: u32,
     values: &mut [u64; 3],
 ) -> u32
     ensures { λ r. ⌜ crossing r (now (values .exit)) (now (marks .exit), now (output .exit))
-        ≡ crossed (orbitCall (now (rows .entry)) (now (marks .entry)) (now (output .entry)) Face d) ⌝ }
+        ≡ crossed (orbitCall (now (rows .entry)) (now (marks .entry)) (now (output .entry)) (now (flags .entry)) Face d) ⌝ }
 {
     hand_on(
-        cell_orbits::orbits::orbit(rows, marks, output, OrbitPolicy::Face, d),
+        cell_orbits::orbits::orbit(rows, marks, output, flags, OrbitPolicy::Face, d),
         values,
     )
 }
@@ -84,14 +88,15 @@ pub extern "C" fn inkcapper_orbit_face_linear(
     rows: &[u32],
     marks: &mut [u8],
     output: &mut [u32],
+    flags: &[u8],
     d: u32,
     values: &mut [u64; 3],
 ) -> u32
     ensures { λ r. ⌜ crossing r (now (values .exit)) (now (marks .exit), now (output .exit))
-        ≡ crossed (orbitCall (now (rows .entry)) (now (marks .entry)) (now (output .entry)) FaceLinear d) ⌝ }
+        ≡ crossed (orbitCall (now (rows .entry)) (now (marks .entry)) (now (output .entry)) (now (flags .entry)) FaceLinear d) ⌝ }
 {
     hand_on(
-        cell_orbits::orbits::orbit(rows, marks, output, OrbitPolicy::FaceLinear, d),
+        cell_orbits::orbits::orbit(rows, marks, output, flags, OrbitPolicy::FaceLinear, d),
         values,
     )
 }
@@ -102,14 +107,15 @@ pub extern "C" fn inkcapper_orbit_volume(
     rows: &[u32],
     marks: &mut [u8],
     output: &mut [u32],
+    flags: &[u8],
     d: u32,
     values: &mut [u64; 3],
 ) -> u32
     ensures { λ r. ⌜ crossing r (now (values .exit)) (now (marks .exit), now (output .exit))
-        ≡ crossed (orbitCall (now (rows .entry)) (now (marks .entry)) (now (output .entry)) Volume d) ⌝ }
+        ≡ crossed (orbitCall (now (rows .entry)) (now (marks .entry)) (now (output .entry)) (now (flags .entry)) Volume d) ⌝ }
 {
     hand_on(
-        cell_orbits::orbits::orbit(rows, marks, output, OrbitPolicy::Volume, d),
+        cell_orbits::orbits::orbit(rows, marks, output, flags, OrbitPolicy::Volume, d),
         values,
     )
 }
@@ -120,14 +126,15 @@ pub extern "C" fn inkcapper_orbit_volume_linear(
     rows: &[u32],
     marks: &mut [u8],
     output: &mut [u32],
+    flags: &[u8],
     d: u32,
     values: &mut [u64; 3],
 ) -> u32
     ensures { λ r. ⌜ crossing r (now (values .exit)) (now (marks .exit), now (output .exit))
-        ≡ crossed (orbitCall (now (rows .entry)) (now (marks .entry)) (now (output .entry)) VolumeLinear d) ⌝ }
+        ≡ crossed (orbitCall (now (rows .entry)) (now (marks .entry)) (now (output .entry)) (now (flags .entry)) VolumeLinear d) ⌝ }
 {
     hand_on(
-        cell_orbits::orbits::orbit(rows, marks, output, OrbitPolicy::VolumeLinear, d),
+        cell_orbits::orbits::orbit(rows, marks, output, flags, OrbitPolicy::VolumeLinear, d),
         values,
     )
 }
@@ -138,15 +145,16 @@ pub extern "C" fn inkcapper_orbit_custom(
     rows: &[u32],
     marks: &mut [u8],
     output: &mut [u32],
+    flags: &[u8],
     betas: &[u8],
     d: u32,
     values: &mut [u64; 3],
 ) -> u32
     ensures { λ r. ⌜ crossing r (now (values .exit)) (now (marks .exit), now (output .exit))
-        ≡ crossed (customCall (now (rows .entry)) (now (marks .entry)) (now (output .entry)) (now (betas .entry)) d) ⌝ }
+        ≡ crossed (customCall (now (rows .entry)) (now (marks .entry)) (now (output .entry)) (now (flags .entry)) (now (betas .entry)) d) ⌝ }
 {
     hand_on(
-        cell_orbits::orbits::orbit_custom(rows, marks, output, betas, d),
+        cell_orbits::orbits::orbit_custom(rows, marks, output, flags, betas, d),
         values,
     )
 }

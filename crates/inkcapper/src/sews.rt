@@ -11,16 +11,17 @@ pub extern "C" fn inkcapper_one_sew(
     rows: &mut [u32],
     marks: &mut [u8],
     queue: &mut [u32],
+    flags: &[u8],
     plan: &mut [u32],
     ld: u32,
     rd: u32,
     values: &mut [u64; 3],
 ) -> u32
     ensures { λ r. ⌜ crossing r (now (values .exit)) (now (rows .exit), now (marks .exit), now (queue .exit), now (plan .exit))
-        ≡ crossed (oneSew (now (rows .entry)) (now (marks .entry)) (now (queue .entry)) (now (plan .entry)) ld rd) ⌝ }
+        ≡ crossed (oneSew (now (rows .entry)) (now (marks .entry)) (now (queue .entry)) (now (flags .entry)) (now (plan .entry)) ld rd) ⌝ }
 {
     hand_on(
-        sew_calls::calls::one_sew(rows, marks, queue, plan, ld, rd),
+        sew_calls::calls::one_sew(rows, marks, queue, flags, plan, ld, rd),
         values,
     )
 }
@@ -31,15 +32,16 @@ pub extern "C" fn inkcapper_one_unsew(
     rows: &mut [u32],
     marks: &mut [u8],
     queue: &mut [u32],
+    flags: &[u8],
     plan: &mut [u32],
     ld: u32,
     values: &mut [u64; 3],
 ) -> u32
     ensures { λ r. ⌜ crossing r (now (values .exit)) (now (rows .exit), now (marks .exit), now (queue .exit), now (plan .exit))
-        ≡ crossed (oneUnsew (now (rows .entry)) (now (marks .entry)) (now (queue .entry)) (now (plan .entry)) ld) ⌝ }
+        ≡ crossed (oneUnsew (now (rows .entry)) (now (marks .entry)) (now (queue .entry)) (now (flags .entry)) (now (plan .entry)) ld) ⌝ }
 {
     hand_on(
-        sew_unsew_calls::calls::one_unsew(rows, marks, queue, plan, ld),
+        sew_unsew_calls::calls::one_unsew(rows, marks, queue, flags, plan, ld),
         values,
     )
 }
@@ -50,6 +52,7 @@ pub extern "C" fn inkcapper_two_sew(
     rows: &mut [u32],
     marks: &mut [u8],
     queue: &mut [u32],
+    flags: &[u8],
     vertices: &[u8],
     coordinates: &[f64],
     plan: &mut [u32],
@@ -58,11 +61,21 @@ pub extern "C" fn inkcapper_two_sew(
     values: &mut [u64; 3],
 ) -> u32
     ensures { λ r. ⌜ crossing r (now (values .exit)) (now (rows .exit), now (marks .exit), now (queue .exit), now (plan .exit))
-        ≡ crossed (twoSew (now (rows .entry)) (now (marks .entry)) (now (queue .entry)) (now (vertices .entry)) (now (coordinates .entry))
-        (now (plan .entry)) ld rd) ⌝ }
+        ≡ crossed (twoSew (now (rows .entry)) (now (marks .entry)) (now (queue .entry)) (now (flags .entry)) (now (vertices .entry))
+        (now (coordinates .entry)) (now (plan .entry)) ld rd) ⌝ }
 {
     hand_on(
-        sew_calls::calls::two_sew(rows, marks, queue, vertices, coordinates, plan, ld, rd),
+        sew_calls::calls::two_sew(
+            rows,
+            marks,
+            queue,
+            flags,
+            vertices,
+            coordinates,
+            plan,
+            ld,
+            rd,
+        ),
         values,
     )
 }
@@ -73,15 +86,16 @@ pub extern "C" fn inkcapper_two_unsew(
     rows: &mut [u32],
     marks: &mut [u8],
     queue: &mut [u32],
+    flags: &[u8],
     plan: &mut [u32],
     ld: u32,
     values: &mut [u64; 3],
 ) -> u32
     ensures { λ r. ⌜ crossing r (now (values .exit)) (now (rows .exit), now (marks .exit), now (queue .exit), now (plan .exit))
-        ≡ crossed (twoUnsew (now (rows .entry)) (now (marks .entry)) (now (queue .entry)) (now (plan .entry)) ld) ⌝ }
+        ≡ crossed (twoUnsew (now (rows .entry)) (now (marks .entry)) (now (queue .entry)) (now (flags .entry)) (now (plan .entry)) ld) ⌝ }
 {
     hand_on(
-        sew_unsew_calls::calls::two_unsew(rows, marks, queue, plan, ld),
+        sew_unsew_calls::calls::two_unsew(rows, marks, queue, flags, plan, ld),
         values,
     )
 }
@@ -92,15 +106,16 @@ pub extern "C" fn inkcapper_three_unsew(
     rows: &mut [u32],
     marks: &mut [u8],
     queue: &mut [u32],
+    flags: &[u8],
     plan: &mut [u32],
     ld: u32,
     values: &mut [u64; 3],
 ) -> u32
     ensures { λ r. ⌜ crossing r (now (values .exit)) (now (rows .exit), now (marks .exit), now (queue .exit), now (plan .exit))
-        ≡ crossed (threeUnsew (now (rows .entry)) (now (marks .entry)) (now (queue .entry)) (now (plan .entry)) ld) ⌝ }
+        ≡ crossed (threeUnsew (now (rows .entry)) (now (marks .entry)) (now (queue .entry)) (now (flags .entry)) (now (plan .entry)) ld) ⌝ }
 {
     hand_on(
-        sew_unsew_calls::calls::three_unsew(rows, marks, queue, plan, ld),
+        sew_unsew_calls::calls::three_unsew(rows, marks, queue, flags, plan, ld),
         values,
     )
 }

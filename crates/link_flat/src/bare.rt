@@ -11,11 +11,11 @@ ghost use Rattle.map_betas.specs.Answers.{outcome};
 ghost use Rattle.link_walk.specs.Calls.{bareLink, bareUnlink};
 
 // Links ld and rd by beta i.
-pub(crate) fn bare_link(rows: &mut [u32], i: u32, ld: u32, rd: u32) -> Answer
+pub(crate) fn bare_link(rows: &mut [u32], flags: &[u8], i: u32, ld: u32, rd: u32) -> Answer
     requires { ⌜ (1 ≤ i) × (i < 4) ⌝ }
-    ensures { λ a. ⌜ outcome a (now (rows .exit)) ≡ bareLink (now (rows .entry)) i ld rd ⌝ }
+    ensures { λ a. ⌜ outcome a (now (rows .exit)) ≡ bareLink (now (rows .entry)) (now (flags .entry)) i ld rd ⌝ }
 {
-    let g = guard(rows, no_loans(), 1, ld, rd);
+    let g = guard(rows, flags, no_loans(), 1, ld, rd);
     if !is_done(g) {
         return g;
     }
@@ -23,11 +23,11 @@ pub(crate) fn bare_link(rows: &mut [u32], i: u32, ld: u32, rd: u32) -> Answer
 }
 
 // Unlinks ld and its image by beta i, which is answered.
-pub(crate) fn bare_unlink(rows: &mut [u32], i: u32, ld: u32) -> Answer
+pub(crate) fn bare_unlink(rows: &mut [u32], flags: &[u8], i: u32, ld: u32) -> Answer
     requires { ⌜ (1 ≤ i) × (i < 4) ⌝ }
-    ensures { λ a. ⌜ outcome a (now (rows .exit)) ≡ bareUnlink (now (rows .entry)) i ld ⌝ }
+    ensures { λ a. ⌜ outcome a (now (rows .exit)) ≡ bareUnlink (now (rows .entry)) (now (flags .entry)) i ld ⌝ }
 {
-    let g = guard(rows, no_loans(), 1, ld, ld);
+    let g = guard(rows, flags, no_loans(), 1, ld, ld);
     if !is_done(g) {
         return g;
     }

@@ -7,15 +7,15 @@ ghost use Rattle.map_betas.specs.Answers.{outcome};
 ghost use Rattle.link_walk.specs.Calls.{oneLink, oneUnlink};
 
 // 1-links ld and rd. After a refusal the rows are as they were.
-pub fn one_link(rows: &mut [u32], ld: u32, rd: u32) -> Answer
-    ensures { λ a. ⌜ outcome a (now (rows .exit)) ≡ oneLink (now (rows .entry)) ld rd ⌝ }
+pub fn one_link(rows: &mut [u32], flags: &[u8], ld: u32, rd: u32) -> Answer
+    ensures { λ a. ⌜ outcome a (now (rows .exit)) ≡ oneLink (now (rows .entry)) (now (flags .entry)) ld rd ⌝ }
 {
-    bare_link(rows, 1, ld, rd)
+    bare_link(rows, flags, 1, ld, rd)
 }
 
 // 1-unlinks ld and its image, which is answered. After a refusal the rows are as they were.
-pub fn one_unlink(rows: &mut [u32], ld: u32) -> Answer
-    ensures { λ a. ⌜ outcome a (now (rows .exit)) ≡ oneUnlink (now (rows .entry)) ld ⌝ }
+pub fn one_unlink(rows: &mut [u32], flags: &[u8], ld: u32) -> Answer
+    ensures { λ a. ⌜ outcome a (now (rows .exit)) ≡ oneUnlink (now (rows .entry)) (now (flags .entry)) ld ⌝ }
 {
-    bare_unlink(rows, 1, ld)
+    bare_unlink(rows, flags, 1, ld)
 }

@@ -1,5 +1,6 @@
 -- What the 3-link and the 3-unlink promise, without their walks. `Matching`, `Linked`, `Unlinkable` and `Unlinked` are those of
--- `specs/Matching.antt`; `Real rows a b` (`specs/Calls.antt` of the crate `link_walk`) says that rows are a map and a and b real darts of it.
+-- `specs/Matching.antt`; `Used rows flags a b` (`specs/Calls.antt` of the crate `link_walk`) says that rows and flags are a map, and a and b real
+-- darts of it in use. That is what the calls are told of (demand 3); cores ask for well-formed rows and real darts.
 --
 --   of the calls
 --   call-succeeds         a 3-link is done exactly where there is a matching
@@ -8,7 +9,7 @@
 --   call-links-what       and what became linked is the matching
 --   call-says             a 3-link that is done has nothing to say
 --   call-undoes           after a 3-link that is done a 3-unlink of ld, as the very next call, is done, answers rd and gives back every row:
---                         for any rows and any darts
+--                         for any rows, flags and darts
 --   call-free             a 3-unlink of a 3-free dart is refused with 8, which names that dart
 --   call-unlinks-iff      a 3-unlink of a dart with an image is done, and answers it, exactly where each dart of the chain faces its image
 --   call-unlinks          exactly these pairs become 3-free
@@ -33,9 +34,11 @@ use Rattle.map_betas.specs.Betas.{beta, darts}
 use Rattle.map_betas.specs.Answers.{Out, out, Outcome, outcome, given, pass, isDone, tellOf}
 use Rattle.map_betas.specs.Maps.{WellFormed}
 use Rattle.link_walk.specs.Three.{threeLinkOn, threeUnlinkOn}
-use Rattle.link_walk.specs.Calls.{Real, threeLink, threeUnlink}
+use Rattle.link_walk.specs.Calls.{Real, Used, threeLink, threeUnlink}
 use Rattle.link_glue.specs.Matching.{Chain, Matching, Linked, Unlinkable, Unlinked}
+use Rattle.map_betas.proofs.Spared.{kept-map}
 use Rattle.link_walk.proofs.CallLaws.{through, inside}
+use Rattle.link_walk.proofs.Kept.{link-kept}
 use Rattle.link_walk.proofs.ThreeLaws.{on-free}
 use Rattle.link_glue.proofs.Success.{Success, closed, opened, link-success}
 use Rattle.link_glue.proofs.Restore.{restored}
@@ -117,25 +120,33 @@ module _ (rows : List ℕ) (ld : ℕ) (s : WellFormed rows) (hl : ld < darts row
 
 -- the calls
 
-module _ (rows : List ℕ) (ld rd : ℕ) where
-  pub call-undoes : isDone (threeLink rows ld rd .answer) ≡ true → threeUnlink (threeLink rows ld rd .loans) ld ≡ outcome (Done rd 0) rows
+module _ (rows flags : List ℕ) (ld rd : ℕ) where
+  -- what a 3-link that is done leaves is a map again, and ld is in use there: the next call's tests pass
+  pub call-undoes : isDone (threeLink rows flags ld rd .answer) ≡ true → threeUnlink (threeLink rows flags ld rd .loans) flags ld ≡ outcome (Done rd 0) rows
   unfolding threeLink threeUnlink
   call-undoes t =
-      let p = through rows ld rd (given (threeLinkOn rows ld rd)) t in
-      let h = p .0 in
+      let p = through rows flags ld rd (given (threeLinkOn rows ld rd)) t in
+      let u = p .0 in
+      let h = u .real in
       let l = h .1 in
       let r = h .3 in
-      let v = restored rows ld rd (h .0) (h .2) (omega arith) (h .4) (omega arith) (ap (λ (o : Outcome (List ℕ)). isDone (o .answer)) (sym (p .1)) ∙ t) in
+      let done : isDone (threeLinkOn rows ld rd .answer) ≡ true = ap (λ (o : Outcome (List ℕ)). isDone (o .answer)) (sym (p .1)) ∙ t in
+      let v = restored rows ld rd (h .0) (h .2) (omega arith) (h .4) (omega arith) done in
       let k : length (threeLinkOn rows ld rd .rows) ≡ length rows = v .1 in
       let hl = h .2 in
-      let next : Real (threeLinkOn rows ld rd .rows) ld ld = (v .0, l, omega arith, l, omega arith) in
-      rw (p .1) (inside (threeLinkOn rows ld rd .rows) ld ld (given (threeUnlinkOn (threeLinkOn rows ld rd .rows) ld)) next ∙ ap given (v .2))
+      let m = kept-map ld rd rows flags _ (u .map) (u .left) (u .right) (link-kept rows ld rd (h .0) (h .2) (omega arith) (h .4) (omega arith)) .0 in
+      let next : Used (threeLinkOn rows ld rd .rows) flags ld ld =
+      record { map = m; real = (v .0, l, omega arith, l, omega arith); left = u .left; right = u .left } in
+      rw (p .1) (inside (threeLinkOn rows ld rd .rows) flags ld ld (given (threeUnlinkOn (threeLinkOn rows ld rd .rows) ld)) next ∙ ap given (v .2))
 
-  module _ (h : Real rows ld rd) where
+  module _ (u : Used rows flags ld rd) where
     -- the call is its core
-    core : threeLink rows ld rd ≡ given (threeLinkOn rows ld rd)
+    core : threeLink rows flags ld rd ≡ given (threeLinkOn rows ld rd)
     unfolding threeLink
-    core = inside rows ld rd (given (threeLinkOn rows ld rd)) h
+    core = inside rows flags ld rd (given (threeLinkOn rows ld rd)) u
+
+    h : Real rows ld rd
+    h = u .real
 
     nl : ld ≢ 0
     nl = let a = h .1 in omega arith
@@ -143,42 +154,46 @@ module _ (rows : List ℕ) (ld rd : ℕ) where
     nr : rd ≢ 0
     nr = let a = h .3 in omega arith
 
-    pub call-succeeds : ((p : ℕ → ℕ) × Matching rows ld rd p) ↔ (isDone (threeLink rows ld rd .answer) ≡ true)
+    pub call-succeeds : ((p : ℕ → ℕ) × Matching rows ld rd p) ↔ (isDone (threeLink rows flags ld rd .answer) ≡ true)
     call-succeeds = rw core (succeeds rows ld rd (h .0) (h .2) nl (h .4) nr)
 
     pub call-matching-unique : (p q : ℕ → ℕ) → Matching rows ld rd p → Matching rows ld rd q → (d : ℕ) → Chain rows ld d → p d ≡ q d
     call-matching-unique = unique rows ld rd (h .0) nl (h .2) (h .4)
 
-    pub call-links : (p : ℕ → ℕ) → Matching rows ld rd p → Linked rows ld p (threeLink rows ld rd .loans)
+    pub call-links : (p : ℕ → ℕ) → Matching rows ld rd p → Linked rows ld p (threeLink rows flags ld rd .loans)
     call-links p q = rw core (links rows ld rd (h .0) (h .2) nl (h .4) nr p q)
 
-    pub call-links-what : isDone (threeLink rows ld rd .answer) ≡ true →
-        Matching rows ld rd (λ d. beta (threeLink rows ld rd .loans) 3 d) × Linked rows ld (λ d. beta (threeLink rows ld rd .loans) 3 d)
-        (threeLink rows ld rd .loans)
+    pub call-links-what : isDone (threeLink rows flags ld rd .answer) ≡ true →
+        Matching rows ld rd (λ d. beta (threeLink rows flags ld rd .loans) 3 d) × Linked rows ld (λ d. beta (threeLink rows flags ld rd .loans) 3 d)
+        (threeLink rows flags ld rd .loans)
     call-links-what t = rw core (link-found rows ld rd (h .0) (h .2) nl (h .4) nr (ap (λ (o : Outcome (List ℕ)). isDone (o .answer)) (sym core) ∙ t))
 
-    pub call-says : isDone (threeLink rows ld rd .answer) ≡ true → threeLink rows ld rd .answer ≡ pass
+    pub call-says : isDone (threeLink rows flags ld rd .answer) ≡ true → threeLink rows flags ld rd .answer ≡ pass
     call-says t = rw core (says rows ld rd (h .0) (h .2) nl (h .4) nr (ap (λ (o : Outcome (List ℕ)). isDone (o .answer)) (sym core) ∙ t))
 
-module _ (rows : List ℕ) (ld : ℕ) (h : Real rows ld ld) where
-  unlink-core : threeUnlink rows ld ≡ given (threeUnlinkOn rows ld)
+module _ (rows flags : List ℕ) (ld : ℕ) (u : Used rows flags ld ld) where
+  unlink-core : threeUnlink rows flags ld ≡ given (threeUnlinkOn rows ld)
   unfolding threeUnlink
-  unlink-core = inside rows ld ld (given (threeUnlinkOn rows ld)) h
+  unlink-core = inside rows flags ld ld (given (threeUnlinkOn rows ld)) u
+
+  at : Real rows ld ld
+  at = u .real
 
   real-ld : ld ≢ 0
-  real-ld = let a = h .1 in omega arith
+  real-ld = let a = at .1 in omega arith
 
-  pub call-free : beta rows 3 ld ≡ 0 → threeUnlink rows ld ≡ outcome (Refused (AlreadyFree 3 ld)) rows
-  call-free z = unlink-core ∙ ap given (free rows ld (h .0) (h .2) real-ld z)
+  pub call-free : beta rows 3 ld ≡ 0 → threeUnlink rows flags ld ≡ outcome (Refused (AlreadyFree 3 ld)) rows
+  call-free z = unlink-core ∙ ap given (free rows ld (at .0) (at .2) real-ld z)
 
-  pub call-unlinks-iff : beta rows 3 ld ≢ 0 → (Unlinkable rows ld) ↔ (threeUnlink rows ld .answer ≡ Done (beta rows 3 ld) 0)
-  call-unlinks-iff n = rw unlink-core (unlinks-iff rows ld (h .0) (h .2) real-ld n)
+  pub call-unlinks-iff : beta rows 3 ld ≢ 0 → (Unlinkable rows ld) ↔ (threeUnlink rows flags ld .answer ≡ Done (beta rows 3 ld) 0)
+  call-unlinks-iff n = rw unlink-core (unlinks-iff rows ld (at .0) (at .2) real-ld n)
 
-  pub call-unlinks : beta rows 3 ld ≢ 0 → isDone (threeUnlink rows ld .answer) ≡ true → Unlinked rows ld (threeUnlink rows ld .loans)
-  call-unlinks n t = rw unlink-core (unlinks rows ld (h .0) (h .2) real-ld n (ap (λ (o : Outcome (List ℕ)). isDone (o .answer)) (sym unlink-core) ∙ t))
+  pub call-unlinks : beta rows 3 ld ≢ 0 → isDone (threeUnlink rows flags ld .answer) ≡ true → Unlinked rows ld (threeUnlink rows flags ld .loans)
+  call-unlinks n t = rw unlink-core (unlinks rows ld (at .0) (at .2) real-ld n (ap (λ (o : Outcome (List ℕ)). isDone (o .answer)) (sym unlink-core) ∙ t))
 
-  pub call-uneven : beta rows 3 ld ≢ 0 → (Unlinkable rows ld → ⊥) → threeUnlink rows ld ≡ outcome (Refused (AsymmetricalFaces ld (beta rows 3 ld))) rows
-  call-uneven n u = unlink-core ∙ ap given (uneven rows ld (h .0) (h .2) real-ld n u)
+  pub call-uneven : beta rows 3 ld ≢ 0 → (Unlinkable rows ld → ⊥) →
+      threeUnlink rows flags ld ≡ outcome (Refused (AsymmetricalFaces ld (beta rows 3 ld))) rows
+  call-uneven n e = unlink-core ∙ ap given (uneven rows ld (at .0) (at .2) real-ld n e)
 
-  pub call-names-ld : (i d : ℕ) → threeUnlink rows ld .answer ≡ Refused (AlreadyFree i d) → (i ≡ 3) × (d ≡ ld) × (beta rows 3 ld ≡ 0)
-  call-names-ld i d e = names-ld rows ld (h .0) (h .2) real-ld i d (ap (λ (o : Outcome (List ℕ)). o .answer) (sym unlink-core) ∙ e)
+  pub call-names-ld : (i d : ℕ) → threeUnlink rows flags ld .answer ≡ Refused (AlreadyFree i d) → (i ≡ 3) × (d ≡ ld) × (beta rows 3 ld ≡ 0)
+  call-names-ld i d e = names-ld rows ld (at .0) (at .2) real-ld i d (ap (λ (o : Outcome (List ℕ)). o .answer) (sym unlink-core) ∙ e)

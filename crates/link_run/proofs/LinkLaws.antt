@@ -1,7 +1,8 @@
 -- The laws of the links and unlinks, once over all six.
 --   link-call      the call of its name is the core behind the tests of every link
 --   link-on-map    on a map its darts alone are tested
---   link-kept      the call leaves a map of as many darts, done or refused
+--   on-keeps       each keeps rows well formed and as many, and links no other dart that was free
+--   link-kept      so the call leaves a map a map, done or refused
 --   link-unmoved   a refused call leaves the rows
 --   core-plain, uncore-plain, walk-plain   the answers of the cores and of a walk carry no length and no count
 --   link-plain     nor does that of a link or an unlink
@@ -9,7 +10,7 @@
 -- Assumes nothing.
 use Prim.Native.Nat.{ℕ, zero, suc}
 use native.Mathlib.Omega.{arith}
-use mathlib.Core.Path.{_≡_, refl, sym, ap, _∙_}
+use mathlib.Core.Path.{_≡_, refl, sym, ap, _∙_, subst}
 use mathlib.Core.Bool.{Bool, true, false, cond, not, _&&_, _||_}
 use mathlib.Core.List.{List}
 use lib.Dec.{eqb, leb}
@@ -18,56 +19,64 @@ use Rattle.map_betas.specs.declared.error.Answer.{Answer}
 use Rattle.map_betas.specs.declared.error.Answer.the-variants.{Done, Refused}
 use Rattle.map_betas.specs.declared.error.Refusal.the-variants.{NonFreeBase, NonFreeImage, AlreadyFree, AsymmetricalFaces}
 use Rattle.map_betas.specs.Betas.{beta, darts, opp, put, cut}
-use Rattle.map_betas.specs.Answers.{Out, out, pass, isDone, given, behind}
-use Rattle.map_betas.specs.Maps.{WellFormed}
-use Rattle.map_betas.specs.Guards.{guardOf, noLoans, Lent}
-use Rattle.map_betas.proofs.Guarded.{on-map}
+use Rattle.map_betas.specs.Answers.{Out, out, pass, isDone, Outcome, given, behind}
+use Rattle.map_betas.specs.Maps.{WellFormed, Map, Keeps, Stays}
+use Rattle.map_betas.specs.Guards.{guardOf, noLoans, Dart}
+use Rattle.map_betas.proofs.Guarded.{no-loans-lent, on-map}
 use Rattle.map_betas.specs.Cores.{linkCore, unlinkCore}
 use Rattle.link_walk.specs.Walk.{stepOf, LegOut, legOut, legAt, walk}
 use Rattle.link_walk.specs.Three.{legOn, legBack, lastLeg, afterLeg, afterCore, threeLinkOn, threeUnlinkOn}
 use Rattle.link_walk.specs.Calls.{bareLink, bareUnlink, threeLink, threeUnlink}
-use Rattle.link_walk.proofs.Kept.{Keeps, Unmoved, bare-link-kept, bare-unlink-kept, three-link-kept, three-unlink-kept}
+use Rattle.map_betas.proofs.Spared.{link-keeps-all, unlink-keeps-all}
+use Rattle.link_walk.proofs.Kept.{Unmoved, link-kept as three-link-kept, unlink-kept as three-unlink-kept, call-kept}
 use Rattle.link_walk.proofs.Kept.{bare-link-unmoved, bare-unlink-unmoved, three-link-unmoved, three-unlink-unmoved}
 use Rattle.link_run.specs.declared.links.Link.{Link}
 use Rattle.link_run.specs.declared.links.Link.the-variants.{OneLink, TwoLink, ThreeLink, OneUnlink, TwoUnlink, ThreeUnlink}
 use Rattle.link_run.specs.Links.{linkOn, linkCall, linkSecond, linkTested, Plain}
 
-pub link-call : (l : Link) (rows : List ℕ) (ld rd : ℕ) →
-    linkCall l rows ld rd ≡ behind (guardOf rows noLoans 1 ld (linkSecond l ld rd)) rows (given (linkOn l rows ld rd))
+pub link-call : (l : Link) (rows flags : List ℕ) (ld rd : ℕ) →
+    linkCall l rows flags ld rd ≡ behind (guardOf rows flags noLoans 1 ld (linkSecond l ld rd)) rows (given (linkOn l rows ld rd))
 unfolding bareLink bareUnlink threeLink threeUnlink
-link-call OneLink rows ld rd = refl
-link-call TwoLink rows ld rd = refl
-link-call ThreeLink rows ld rd = refl
-link-call OneUnlink rows ld rd = refl
-link-call TwoUnlink rows ld rd = refl
-link-call ThreeUnlink rows ld rd = refl
+link-call OneLink rows flags ld rd = refl
+link-call TwoLink rows flags ld rd = refl
+link-call ThreeLink rows flags ld rd = refl
+link-call OneUnlink rows flags ld rd = refl
+link-call TwoUnlink rows flags ld rd = refl
+link-call ThreeUnlink rows flags ld rd = refl
 
-pub no-loans-lent : (rows : List ℕ) → WellFormed rows → Lent (darts rows) noLoans
-no-loans-lent rows w =
-    let few = w .sized .few in
-    record { marks = omega arith; queue = omega arith; output = omega arith; flags = omega arith; vertices = omega arith; coordinates = omega arith }
-
-pub link-on-map : (l : Link) (rows : List ℕ) (ld rd : ℕ) → WellFormed rows → linkCall l rows ld rd ≡ linkTested l rows ld rd
+pub link-on-map : (l : Link) (rows flags : List ℕ) (ld rd : ℕ) → Map rows flags → linkCall l rows flags ld rd ≡ linkTested l rows flags ld rd
 unfolding linkTested
-link-on-map l rows ld rd w =
-    link-call l rows ld rd
-    ∙ ap (λ (g : Answer). behind g rows (given (linkOn l rows ld rd))) (on-map rows noLoans 1 ld (linkSecond l ld rd) w (no-loans-lent rows w))
+link-on-map l rows flags ld rd m =
+    link-call l rows flags ld rd
+    ∙ ap (λ (g : Answer). behind g rows (given (linkOn l rows ld rd)))
+    (on-map rows flags noLoans 1 ld (linkSecond l ld rd) m (no-loans-lent rows (m .formed)))
 
-pub link-kept : (l : Link) (rows : List ℕ) (ld rd : ℕ) → WellFormed rows → Keeps rows (linkCall l rows ld rd .loans)
-link-kept OneLink rows ld rd w = bare-link-kept rows 1 ld rd (omega arith) (omega arith) w
-link-kept TwoLink rows ld rd w = bare-link-kept rows 2 ld rd (omega arith) (omega arith) w
-link-kept ThreeLink rows ld rd w = three-link-kept rows ld rd w
-link-kept OneUnlink rows ld rd w = bare-unlink-kept rows 1 ld (omega arith) (omega arith) w
-link-kept TwoUnlink rows ld rd w = bare-unlink-kept rows 2 ld (omega arith) (omega arith) w
-link-kept ThreeUnlink rows ld rd w = three-unlink-kept rows ld w
+-- what each leaves of real darts: rows that are well formed and as many, and no dart linked that was free and is none of its own
+pub on-keeps : (l : Link) (rows : List ℕ) (ld rd : ℕ) → WellFormed rows → Dart (darts rows) 1 ld → Dart (darts rows) 1 (linkSecond l ld rd) →
+    Keeps ld (linkSecond l ld rd) rows (linkOn l rows ld rd .rows)
+on-keeps OneLink rows ld rd w dl dr = link-keeps-all rows 1 ld w (omega arith) (omega arith) rd dl dr
+on-keeps TwoLink rows ld rd w dl dr = link-keeps-all rows 2 ld w (omega arith) (omega arith) rd dl dr
+on-keeps ThreeLink rows ld rd w dl dr =
+    let h = dl .allowed in
+    let k = dr .allowed in
+    three-link-kept rows ld rd w (dl .below) (omega arith) (dr .below) (omega arith)
+on-keeps OneUnlink rows ld rd w dl dr = unlink-keeps-all rows 1 ld w (omega arith) (omega arith)
+on-keeps TwoUnlink rows ld rd w dl dr = unlink-keeps-all rows 2 ld w (omega arith) (omega arith)
+on-keeps ThreeUnlink rows ld rd w dl dr = let h = dl .allowed in three-unlink-kept rows ld w (dl .below) (omega arith)
 
-pub link-unmoved : (l : Link) (rows : List ℕ) (ld rd : ℕ) → Unmoved rows (linkCall l rows ld rd)
-link-unmoved OneLink rows ld rd = bare-link-unmoved rows 1 ld rd
-link-unmoved TwoLink rows ld rd = bare-link-unmoved rows 2 ld rd
-link-unmoved ThreeLink rows ld rd = three-link-unmoved rows ld rd
-link-unmoved OneUnlink rows ld rd = bare-unlink-unmoved rows 1 ld
-link-unmoved TwoUnlink rows ld rd = bare-unlink-unmoved rows 2 ld
-link-unmoved ThreeUnlink rows ld rd = three-unlink-unmoved rows ld
+pub link-kept : (l : Link) (rows flags : List ℕ) (ld rd : ℕ) → Map rows flags → Stays flags rows (linkCall l rows flags ld rd .loans)
+link-kept l rows flags ld rd m =
+    subst (λ (o : Outcome (List ℕ)). Stays flags rows (o .loans)) (sym (link-call l rows flags ld rd))
+    (call-kept rows flags ld (linkSecond l ld rd) m (linkOn l rows ld rd)
+    (λ h. on-keeps l rows ld rd (h .0) (record { allowed = h .1; below = h .2 }) (record { allowed = h .3; below = h .4 })))
+
+pub link-unmoved : (l : Link) (rows flags : List ℕ) (ld rd : ℕ) → Unmoved rows (linkCall l rows flags ld rd)
+link-unmoved OneLink rows flags ld rd = bare-link-unmoved rows flags 1 ld rd
+link-unmoved TwoLink rows flags ld rd = bare-link-unmoved rows flags 2 ld rd
+link-unmoved ThreeLink rows flags ld rd = three-link-unmoved rows flags ld rd
+link-unmoved OneUnlink rows flags ld rd = bare-unlink-unmoved rows flags 1 ld
+link-unmoved TwoUnlink rows flags ld rd = bare-unlink-unmoved rows flags 2 ld
+link-unmoved ThreeUnlink rows flags ld rd = three-unlink-unmoved rows flags ld
 
 -- ---- what answers carry
 

@@ -30,13 +30,13 @@ linkOn TwoUnlink rows ld rd = unlinkCore rows 2 ld
 linkOn ThreeUnlink rows ld rd = threeUnlinkOn rows ld
 
 -- the calls that a user has; an unlink is not given the second dart (scope: commands)
-abbrev pub linkCall : Link → List ℕ → ℕ → ℕ → Outcome (List ℕ)
-linkCall OneLink rows ld rd = oneLink rows ld rd
-linkCall TwoLink rows ld rd = twoLink rows ld rd
-linkCall ThreeLink rows ld rd = threeLink rows ld rd
-linkCall OneUnlink rows ld rd = oneUnlink rows ld
-linkCall TwoUnlink rows ld rd = twoUnlink rows ld
-linkCall ThreeUnlink rows ld rd = threeUnlink rows ld
+abbrev pub linkCall : Link → List ℕ → List ℕ → ℕ → ℕ → Outcome (List ℕ)
+linkCall OneLink rows flags ld rd = oneLink rows flags ld rd
+linkCall TwoLink rows flags ld rd = twoLink rows flags ld rd
+linkCall ThreeLink rows flags ld rd = threeLink rows flags ld rd
+linkCall OneUnlink rows flags ld rd = oneUnlink rows flags ld
+linkCall TwoUnlink rows flags ld rd = twoUnlink rows flags ld
+linkCall ThreeUnlink rows flags ld rd = threeUnlink rows flags ld
 
 -- an unlink has no second dart: its first stands in
 abbrev pub linkSecond : Link → ℕ → ℕ → ℕ
@@ -48,8 +48,8 @@ linkSecond TwoUnlink ld rd = ld
 linkSecond ThreeUnlink ld rd = ld
 
 -- on a map no other test can refuse (`link-on-map`, `proofs/LinkLaws.antt`)
-unfoldable pub linkTested : Link → List ℕ → ℕ → ℕ → Outcome (List ℕ)
-linkTested l rows ld rd = behind (dartTest (darts rows) 1 ld (linkSecond l ld rd)) rows (given (linkOn l rows ld rd))
+unfoldable pub linkTested : Link → List ℕ → List ℕ → ℕ → ℕ → Outcome (List ℕ)
+linkTested l rows flags ld rd = behind (dartTest (darts rows) flags 1 ld (linkSecond l ld rd)) rows (given (linkOn l rows ld rd))
 
 -- a refusal whose values are darts, betas and small numbers, and no length
 abbrev pub PlainRefusal : Refusal → Type 0

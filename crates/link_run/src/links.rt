@@ -7,6 +7,8 @@ use map_betas::error::Answer;
 use map_betas::error::is_done;
 use map_guard::guard::dart_test;
 ghost use mathlib.Core.Path.{_≡_};
+ghost use Prim.Native.Nat.{_≤_};
+ghost use lib.ListN.{length};
 ghost use Rattle.map_betas.specs.Betas.{darts};
 ghost use Rattle.map_betas.specs.Maps.{WellFormed};
 ghost use Rattle.map_betas.specs.Guards.{Dart};
@@ -53,13 +55,13 @@ fn run_link(link: Link, rows: &mut [u32], ld: u32, rd: u32) -> Answer
 }
 
 // A link or an unlink of any darts of a map: its darts are tested first. After a refusal the rows are as they were.
-pub fn join(link: Link, rows: &mut [u32], ld: u32, rd: u32) -> Answer
-    requires { ⌜ WellFormed (now rows) ⌝ }
-    ensures { λ a. ⌜ outcome a (now (rows .exit)) ≡ linkTested link (now (rows .entry)) ld rd ⌝ }
+pub fn join(link: Link, rows: &mut [u32], flags: &[u8], ld: u32, rd: u32) -> Answer
+    requires { ⌜ WellFormed (now rows) × (darts (now rows) ≤ length (now flags)) ⌝ }
+    ensures { λ a. ⌜ outcome a (now (rows .exit)) ≡ linkTested link (now (rows .entry)) (now (flags .entry)) ld rd ⌝ }
 {
     let second = link_second(link, ld, rd);
     let n = rows.len() / 4;
-    let t = dart_test(n, 1, ld, second);
+    let t = dart_test(flags, n, 1, ld, second);
     if !is_done(t) {
         return t;
     }

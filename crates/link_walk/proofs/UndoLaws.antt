@@ -1,5 +1,5 @@
 -- What a walk leaves, and what sets it back.
---   Walked, walked   a walk leaves a map of as many darts, and its pairs, set back in the same order, give the rows that it began with
+--   Walked, walked   a walk leaves a map of as many darts, links no dart that was free, and its pairs, set back in the same order, give the rows that it began with
 --   again-on         the same with a pair before the walk
 --   turn             a turn of the loop that walks
 --   back-inside, back-next, undone-none   a turn of the loop that sets back, and its end
@@ -16,9 +16,10 @@ use lib.ListN.{length, set}
 use lib.Seq.{set-comm}
 use borrow.Author.Tests.{eq-eqb, ne-eqb}
 use Rattle.map_betas.specs.Betas.{place, beta, darts}
-use Rattle.map_betas.specs.Maps.{WellFormed}
+use Rattle.map_betas.specs.Maps.{WellFormed, Free}
 use Rattle.map_betas.specs.declared.error.Answer.{Answer}
 use Rattle.map_betas.specs.Answers.{Out, out, isDone, pass}
+use Rattle.map_betas.proofs.Spared.{pair-spares, next-linked}
 use Rattle.link_walk.specs.Walk.{LegOut, legOut, legAt, walk, stepOf}
 use Rattle.link_walk.specs.Undo.{undone, Inside}
 use Rattle.link_walk.proofs.Stores.{inside-set, beta-set, clear-comm}
@@ -47,6 +48,8 @@ pub record Walked (parting : Bool) (rows : List ℕ) (i j l r k : ℕ) (w : LegO
   pub moves : (xs : List ℕ) (d v : ℕ) → Alike xs rows → Safe parting rows d v →
       undone parting more (set xs (place 3 d) v) i j l r ≡ set (undone parting more xs i j l r) (place 3 d) v
   pub again : undone parting more (w .rows) i j l r ≡ rows
+  -- a dart that was free is not met, if l and r are null or linked
+  pub spared : (Free rows l → l ≡ 0) → (Free rows r → r ≡ 0) → (d : ℕ) → Free rows d → Free (w .rows) d
 
 -- where it ends at once
 module _ (parting : Bool) (rows : List ℕ) (i j l r k : ℕ) where
@@ -64,6 +67,7 @@ module _ (parting : Bool) (rows : List ℕ) (i j l r k : ℕ) where
         fell = omega arith;
         moves = λ xs d v e f. refl;
         again = refl;
+        spared = λ zl zr d f. f;
       }
 
 -- a pair is changed
@@ -160,6 +164,12 @@ module _ (parting : Bool) (rows : List ℕ) (l r : ℕ) (rows′ : List ℕ) (s 
         fell = let e = v .fell in let f = changed-fewer parting rows l r rows′ s h hl hr nl in omega arith;
         moves = moves-on i j (suc k) hi hj w v;
         again = again-on i j (suc k) hi hj w v;
+        spared = λ zl zr d f.
+            let s′ = changed-formed parting rows l r rows′ s h hl hr nl in
+            let al : d ≢ l = λ e. nl (zl (λ b hb. ap (beta rows b) (sym e) ∙ f b hb)) in
+            let ar : d ≢ r = λ e. h .real (zr (λ b hb. ap (beta rows b) (sym e) ∙ f b hb)) in
+            v .spared (next-linked rows′ i l s′ (omega arith) nl) (next-linked rows′ j r s′ (omega arith) (h .real)) d
+            (pair-spares parting rows 3 l r rows′ h (omega arith) d al ar f);
       }
 
 -- a walk of any length

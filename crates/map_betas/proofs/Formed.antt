@@ -1,9 +1,13 @@
--- The map test and the size test pass exactly where the rows are well formed (`formed-iff`). Assumes nothing.
+-- The map test passes exactly on a map: rows that are well formed, and no unused dart with an image.
+--   size-done   the size test has passed
+--   map-done    both tests have passed, with a flag for each dart
+--   map-passes  the map test passes on a map
+-- Assumes nothing.
 use Prim.Native.Nat.{ℕ, zero, suc, _+_, _*_, _-_, _/_, _%_, _<_, _≤_}
 use native.Mathlib.Omega.{arith}
 use native.Mathlib.Decide.{decLt, ℕ-discrete}
 use mathlib.Core.Path.{_≡_, refl, sym, ap, _∙_}
-use mathlib.Core.Logic.{_≢_, _↔_, by-cases}
+use mathlib.Core.Logic.{_≢_, by-cases}
 use mathlib.Core.List.{List}
 use mathlib.Core.Bool.{Bool, true, false, cond, not, true≢false}
 use lib.ListN.{length, List·getD-eq-default}
@@ -13,48 +17,62 @@ use Rattle.map_betas.specs.declared.error.Answer.the-variants.{Refused}
 use Rattle.map_betas.specs.declared.error.Refusal.the-variants.{BadSize}
 use Rattle.map_betas.specs.Betas.{place, beta, darts, opp}
 use Rattle.map_betas.specs.Answers.{pass, isDone}
-use Rattle.map_betas.specs.Maps.{Sized, badSize, sizeTest, breaks, breachAt, firstBreach, mapTest, checkMap, WellFormed}
-use Rattle.map_betas.proofs.AnswerLaws.{first-done, then-done}
-use Rattle.map_betas.proofs.MapLaws.{sized, size-good, breaks-far, breaks-null, breaks-dart0, breaks-fixed, breaks-back, breach-clean, breach-none}
+use Rattle.map_betas.specs.Maps.{Sized, badSize, sizeTest, breaks, breachAt, bound, unused, firstBreach, mapTest, WellFormed, Free, Map}
+use Rattle.map_betas.proofs.FreeLaws.{bound-used, bound-free, not-bound, beyond-free}
+use Rattle.map_betas.proofs.MapLaws.{sized, breaks-far, breaks-null, breaks-dart0, breaks-fixed, breaks-back, breach-clean, breach-none}
 
 -- no image breaks a rule
 abbrev Clean : List ℕ → Type 0
 Clean rows = (i d : ℕ) → i < 4 → d < darts rows → breaks rows i d ≡ false
 
--- a search that finds nothing passed each dart
-search-clean : (f : ℕ) (rows : List ℕ) (d : ℕ) → isDone (firstBreach f rows d) ≡ true → (e : ℕ) → d ≤ e → e < d + f → 4 ≤ breachAt rows e
-unfolding firstBreach
-search-clean zero rows d t e l h = absurd (omega arith)
-search-clean (suc f) rows d t e l h = go (ltb (breachAt rows d) 4) refl (λ r a. search-clean f rows (d + 1) r e a (omega arith))
-  where
-    go : (b : Bool) → ltb (breachAt rows d) 4 ≡ b → (isDone (firstBreach f rows (d + 1)) ≡ true → d + 1 ≤ e → 4 ≤ breachAt rows e) →
-        4 ≤ breachAt rows e
-    go true u next = absurd (true≢false (sym (simp u at t)))
-    go false u next =
-        by-cases (ℕ-discrete e d) (λ (p : e ≡ d). rw p (ltb-false (breachAt rows d) 4 u)) (λ (p : e ≢ d). next (simp u at t) (omega arith))
+-- nor has an unused dart an image
+abbrev Passes : List ℕ → List ℕ → ℕ → Type 0
+Passes rows flags d = (4 ≤ breachAt rows d) × (bound rows flags d ≡ false)
 
-clean-search : (f : ℕ) (rows : List ℕ) (d : ℕ) → ((e : ℕ) → d ≤ e → e < d + f → 4 ≤ breachAt rows e) → firstBreach f rows d ≡ pass
+-- a search that finds nothing passed each dart
+search-clean : (f : ℕ) (rows flags : List ℕ) (d : ℕ) → isDone (firstBreach f rows flags d) ≡ true → (e : ℕ) → d ≤ e → e < d + f → Passes rows flags e
 unfolding firstBreach
-clean-search zero rows d h = refl
-clean-search (suc f) rows d h =
-    simp (le-ltb (breachAt rows d) 4 (h d (omega arith) (omega arith))) (clean-search f rows (d + 1) (λ e a b. h e (omega arith) (omega arith)))
+search-clean zero rows flags d t e l h = absurd (omega arith)
+search-clean (suc f) rows flags d t e l h =
+    go (ltb (breachAt rows d) 4) refl (bound rows flags d) refl (λ r a. search-clean f rows flags (d + 1) r e a (omega arith))
+  where
+    go : (b : Bool) → ltb (breachAt rows d) 4 ≡ b → (c : Bool) → bound rows flags d ≡ c →
+        (isDone (firstBreach f rows flags (d + 1)) ≡ true → d + 1 ≤ e → Passes rows flags e) → Passes rows flags e
+    go true u c v next = absurd (true≢false (sym (simp u at t)))
+    go false u true v next = absurd (true≢false (sym (simp (u, v) at t)))
+    go false u false v next =
+        by-cases (ℕ-discrete e d) (λ (p : e ≡ d). rw p (ltb-false (breachAt rows d) 4 u, v)) (λ (p : e ≢ d). next (simp (u, v) at t) (omega arith))
+
+clean-search : (f : ℕ) (rows flags : List ℕ) (d : ℕ) → ((e : ℕ) → d ≤ e → e < d + f → Passes rows flags e) → firstBreach f rows flags d ≡ pass
+unfolding firstBreach
+clean-search zero rows flags d h = refl
+clean-search (suc f) rows flags d h =
+    let p = h d (omega arith) (omega arith) in
+    simp (le-ltb (breachAt rows d) 4 (p .0), p .1) (clean-search f rows flags (d + 1) (λ e a b. h e (omega arith) (omega arith)))
 
 -- the size and the rules, from what the tests found, and back
 
 module _ (rows : List ℕ) (s : Sized rows) where
-  test-clean : isDone (mapTest rows) ≡ true → Clean rows
+  test-clean : (flags : List ℕ) → isDone (mapTest rows flags) ≡ true → Clean rows
   unfolding mapTest
-  test-clean t i d hi hd = breach-clean rows d (search-clean (darts rows) rows 0 t d (omega arith) (omega arith)) i hi
+  test-clean flags t i d hi hd = breach-clean rows d (search-clean (darts rows) rows flags 0 t d (omega arith) (omega arith) .0) i hi
 
-  clean-test : Clean rows → mapTest rows ≡ pass
+  test-free : (flags : List ℕ) → isDone (mapTest rows flags) ≡ true → (d : ℕ) → unused flags d ≡ true → Free rows d
   unfolding mapTest
-  clean-test h =
-      clean-search (darts rows) rows 0
+  test-free flags t d u =
+      by-cases (decLt d (darts rows))
+      (λ h. not-bound rows flags d (search-clean (darts rows) rows flags 0 t d (omega arith) (omega arith) .1) u)
+      (λ h. beyond-free rows d (s .whole) (omega arith))
+
+  clean-test : (flags : List ℕ) → Clean rows → ((d : ℕ) → bound rows flags d ≡ false) → mapTest rows flags ≡ pass
+  unfolding mapTest
+  clean-test flags h free =
+      clean-search (darts rows) rows flags 0
       (λ d a b.
       let e : 4 ≡ breachAt rows d =
       breach-none rows d (h 0 d (omega arith) (omega arith)) (h 1 d (omega arith) (omega arith)) (h 2 d (omega arith) (omega arith))
       (h 3 d (omega arith) (omega arith)) in
-      omega arith)
+      (omega arith, free d))
 
   module _ (h : Clean rows) where
     clean-below : (i d : ℕ) → i < 4 → d < darts rows → beta rows i d < darts rows
@@ -118,21 +136,14 @@ size-done rows = go (badSize (length rows)) refl
     go false t e = sized rows t
 
 -- both tests have passed
-pub formed-done : (rows : List ℕ) → isDone (sizeTest rows) ≡ true → isDone (mapTest rows) ≡ true → WellFormed rows
-formed-done rows s t = let z = size-done rows s in formed rows z (test-clean rows z t)
+pub map-done : (rows flags : List ℕ) → Sized rows → darts rows ≤ length flags → isDone (mapTest rows flags) ≡ true → Map rows flags
+map-done rows flags s l t = record { formed = formed rows s (test-clean rows s flags t); flagged = l; free = test-free rows s flags t }
 
 -- the map test passes on a map
-pub map-passes : (rows : List ℕ) → WellFormed rows → mapTest rows ≡ pass
-map-passes rows w = clean-test rows (w .sized) (formed-clean rows (w .sized) w)
-
--- no breach is found exactly where the rows are well formed
-pub formed-iff : (rows : List ℕ) → (checkMap rows ≡ pass) ↔ WellFormed rows
-formed-iff rows = (there, back)
+pub map-passes : (rows flags : List ℕ) → Map rows flags → mapTest rows flags ≡ pass
+map-passes rows flags m =
+    clean-test rows (m .formed .sized) flags (formed-clean rows (m .formed .sized) (m .formed)) (λ d. go d (unused flags d) refl)
   where
-    there : checkMap rows ≡ pass → WellFormed rows
-    there e =
-        let t : isDone (checkMap rows) ≡ true = ap isDone e in
-        formed-done rows (first-done (sizeTest rows) (mapTest rows) t) (then-done (sizeTest rows) (mapTest rows) t)
-
-    back : WellFormed rows → checkMap rows ≡ pass
-    back w = simp (size-good rows (w .sized)) (map-passes rows w)
+    go : (d : ℕ) (b : Bool) → unused flags d ≡ b → bound rows flags d ≡ false
+    go d true u = bound-free rows flags d (m .free d u)
+    go d false u = bound-used rows flags d u

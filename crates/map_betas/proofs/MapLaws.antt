@@ -14,7 +14,7 @@ use Rattle.map_betas.specs.declared.error.Answer.the-variants.{Refused}
 use Rattle.map_betas.specs.declared.error.Refusal.the-variants.{BadSize, NotAMap}
 use Rattle.map_betas.specs.Betas.{beta, darts, opp}
 use Rattle.map_betas.specs.Answers.{pass}
-use Rattle.map_betas.specs.Maps.{Sized, NullRow, badSize, sizeTest, breaks, breachAt, firstBreach, mapTest}
+use Rattle.map_betas.specs.Maps.{Sized, NullRow, badSize, sizeTest, breaks, breachAt, bound, firstBreach, mapTest}
 use Rattle.map_betas.proofs.BetaLaws.{opp-lt, no-self}
 
 -- the size
@@ -165,27 +165,34 @@ module _ (rows : List ℕ) (d : ℕ) where
 
 -- the search for the first breach, at dart d of n
 
-module _ (rows : List ℕ) (n d : ℕ) where
-  pub first-hit : (i : ℕ) → d < n → i ≡ breachAt rows d → i < 4 → Refused (NotAMap i d) ≡ firstBreach (n - d) rows d
+module _ (rows flags : List ℕ) (n d : ℕ) where
+  pub first-hit : (i : ℕ) → d < n → i ≡ breachAt rows d → i < 4 → Refused (NotAMap i d) ≡ firstBreach (n - d) rows flags d
   unfolding firstBreach
   first-hit i h e l =
       let p : n - d ≡ suc (n - (d + 1)) = omega arith in
       rw p (simp (← e, lt-ltb i 4 l))
 
-  pub first-miss : (i : ℕ) → d < n → i ≡ breachAt rows d → 4 ≤ i → firstBreach (n - d) rows d ≡ firstBreach (n - (d + 1)) rows (d + 1)
+  pub first-bound : d < n → 4 ≤ breachAt rows d → bound rows flags d ≡ true → Refused (NotAMap 4 d) ≡ firstBreach (n - d) rows flags d
   unfolding firstBreach
-  first-miss i h e l =
+  first-bound h l b =
       let p : n - d ≡ suc (n - (d + 1)) = omega arith in
-      rw p (simp (← e, le-ltb i 4 l))
+      rw p (simp (le-ltb _ 4 l, b))
 
-  pub first-end : n ≤ d → pass ≡ firstBreach (n - d) rows d
+  pub first-miss : d < n → 4 ≤ breachAt rows d → bound rows flags d ≡ false →
+      firstBreach (n - d) rows flags d ≡ firstBreach (n - (d + 1)) rows flags (d + 1)
+  unfolding firstBreach
+  first-miss h l b =
+      let p : n - d ≡ suc (n - (d + 1)) = omega arith in
+      rw p (simp (le-ltb _ 4 l, b))
+
+  pub first-end : n ≤ d → pass ≡ firstBreach (n - d) rows flags d
   unfolding firstBreach
   first-end h =
       let p : n - d ≡ 0 = omega arith in
       rw p refl
 
-pub first-start : (rows : List ℕ) (n : ℕ) → n ≡ darts rows → mapTest rows ≡ firstBreach (n - 0) rows 0
+pub first-start : (rows flags : List ℕ) (n : ℕ) → n ≡ darts rows → mapTest rows flags ≡ firstBreach (n - 0) rows flags 0
 unfolding mapTest
-first-start rows n e =
+first-start rows flags n e =
     let p : n - 0 ≡ darts rows = omega arith in
     rw p refl

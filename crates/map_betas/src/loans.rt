@@ -2,12 +2,11 @@
 ghost use mathlib.Core.Path.{_≡_};
 ghost use Rattle.map_betas.specs.Guards.{noLoans, scratchOf, orbitLoans, listLoans, vertexLoans, readerLoans, countedAs, commandLoans};
 
-// The lengths of the loans that a call has; a loan that it has not counts as `ENOUGH`.
+// The lengths of the loans that a call has beside rows and flags, which every call on a map has; a loan that it has not counts as `ENOUGH`.
 pub struct Loans {
     pub marks: usize,
     pub queue: usize,
     pub output: usize,
-    pub flags: usize,
     pub vertices: usize,
     pub coordinates: usize,
 }
@@ -23,7 +22,6 @@ pub fn no_loans() -> Loans
         marks: ENOUGH,
         queue: ENOUGH,
         output: ENOUGH,
-        flags: ENOUGH,
         vertices: ENOUGH,
         coordinates: ENOUGH,
     }
@@ -37,7 +35,6 @@ pub fn scratch(marks: usize, queue: usize) -> Loans
         marks,
         queue,
         output: ENOUGH,
-        flags: ENOUGH,
         vertices: ENOUGH,
         coordinates: ENOUGH,
     }
@@ -51,21 +48,19 @@ pub fn orbit_loans(marks: usize, output: usize) -> Loans
         marks,
         queue: ENOUGH,
         output,
-        flags: ENOUGH,
         vertices: ENOUGH,
         coordinates: ENOUGH,
     }
 }
 
 // The loans of a list call.
-pub fn list_loans(marks: usize, queue: usize, output: usize, flags: usize) -> Loans
-    ensures { λ r. ⌜ r ≡ listLoans marks queue output flags ⌝ }
+pub fn list_loans(marks: usize, queue: usize, output: usize) -> Loans
+    ensures { λ r. ⌜ r ≡ listLoans marks queue output ⌝ }
 {
     Loans {
         marks,
         queue,
         output,
-        flags,
         vertices: ENOUGH,
         coordinates: ENOUGH,
     }
@@ -79,21 +74,19 @@ pub fn vertex_loans(marks: usize, queue: usize, vertices: usize, coordinates: us
         marks,
         queue,
         output: ENOUGH,
-        flags: ENOUGH,
         vertices,
         coordinates,
     }
 }
 
-// The loans that the reader has of those that other calls have too.
-pub fn reader_loans(flags: usize, vertices: usize, coordinates: usize) -> Loans
-    ensures { λ r. ⌜ r ≡ readerLoans flags vertices coordinates ⌝ }
+// The loans that the reader and the writer have of those that other calls have too.
+pub fn reader_loans(vertices: usize, coordinates: usize) -> Loans
+    ensures { λ r. ⌜ r ≡ readerLoans vertices coordinates ⌝ }
 {
     Loans {
         marks: ENOUGH,
         queue: ENOUGH,
         output: ENOUGH,
-        flags,
         vertices,
         coordinates,
     }
@@ -122,7 +115,6 @@ pub fn command_loans(
         marks,
         queue,
         output: answers,
-        flags: ENOUGH,
         vertices,
         coordinates,
     }

@@ -1,2 +1,3 @@
-// Which image of a dart breaks a rule of a map.
+// What of a dart breaks a rule of a map: an image, or that it is unused and linked.
 pub mod breaches;
+pub mod free;

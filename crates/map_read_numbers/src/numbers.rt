@@ -1,15 +1,15 @@
 // The map test, reads and free tests, with their answers handed on as numbers: the number is returned, the three values are written.
 use map_answers::flat::hand_on;
 ghost use mathlib.Core.Path.{_≡_};
-ghost use Rattle.map_betas.specs.Maps.{checkMap};
+ghost use Rattle.map_betas.specs.Guards.{checkMap};
 ghost use Rattle.map_betas.specs.Reads.{betaRead, iFree, isFree};
 ghost use Rattle.map_betas.specs.Flat.{flat, flatOf};
 
-// Whether the rows are a 3-map: refusals 1 and 3.
-pub fn check_map(rows: &[u32], values: &mut [u64; 3]) -> u32
-    ensures { λ r. ⌜ flat r (now (values .exit)) ≡ flatOf (checkMap (now (rows .entry))) ⌝ }
+// Whether rows and flags are a 3-map: refusals 1, 2 and 3.
+pub fn check_map(rows: &[u32], flags: &[u8], values: &mut [u64; 3]) -> u32
+    ensures { λ r. ⌜ flat r (now (values .exit)) ≡ flatOf (checkMap (now (rows .entry)) (now (flags .entry))) ⌝ }
 {
-    hand_on(map_test::structure::check_map(rows), values)
+    hand_on(map_guard::guard::check_map(rows, flags), values)
 }
 
 // The image of d by beta i.

@@ -3,13 +3,13 @@ use map_betas::betas::beta_at;
 use map_betas::error::Answer;
 use map_betas::error::Refusal;
 use map_betas::error::is_done;
-use map_guard::guard::dart_test;
+use map_breaches::free::free_at;
 use map_test::structure::size_test;
 ghost use mathlib.Core.Path.{_≡_};
 ghost use Prim.Native.Nat.{_+_, _*_, _/_, _<_};
 ghost use lib.ListN.{length};
 ghost use Rattle.map_betas.specs.Betas.{beta};
-ghost use Rattle.map_betas.specs.Reads.{readTest, betaRead, iFree, freeAt, isFree, yes};
+ghost use Rattle.map_betas.specs.Reads.{readTest, betaRead, iFree, isFree, yes};
 
 // Refusals 1, 4 and 5, in that order.
 fn read_test(rows: &[u32], i: u32, d: u32) -> Answer
@@ -19,9 +19,8 @@ fn read_test(rows: &[u32], i: u32, d: u32) -> Answer
     if !is_done(s) {
         return s;
     }
-    let t = dart_test(rows.len() / 4, 0, d, d);
-    if !is_done(t) {
-        return t;
+    if rows.len() / 4 <= d as usize {
+        return Answer::Refused(Refusal::BadDart(1));
     }
     if 3 < i {
         return Answer::Refused(Refusal::BadBeta(i));
@@ -55,23 +54,6 @@ pub fn is_i_free(rows: &[u32], i: u32, d: u32) -> Answer
         return t;
     }
     Answer::Done(yes_of(beta_at(rows, i, d) == 0), 0)
-}
-
-// Whether all four images of d are null.
-fn free_at(rows: &[u32], d: u32) -> bool
-    requires { ⌜ 4 * d + 3 < length (now rows) ⌝ }
-    ensures { λ r. ⌜ r ≡ freeAt (now (rows .entry)) d ⌝ }
-{
-    if beta_at(rows, 0, d) != 0 {
-        return false;
-    }
-    if beta_at(rows, 1, d) != 0 {
-        return false;
-    }
-    if beta_at(rows, 2, d) != 0 {
-        return false;
-    }
-    beta_at(rows, 3, d) == 0
 }
 
 // Whether d has no image.

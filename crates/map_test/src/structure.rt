@@ -1,11 +1,14 @@
-// The map test: the size of the rows, then the first image that breaks a rule. (dim3/structure.rs has the map whose rules these are.)
+// The map test: the size of the rows, then the first dart that breaks a rule. (dim3/structure.rs has the map whose rules these are.)
 use map_betas::betas::beta_at;
 use map_betas::error::Answer;
 use map_betas::error::Refusal;
-use map_betas::error::is_done;
 use map_breaches::breaches::breach_at;
+use map_breaches::free::bound_at;
 ghost use mathlib.Core.Path.{_≡_};
-ghost use Rattle.map_betas.specs.Maps.{Sized, sizeTest, breachAt, mapTest, checkMap};
+ghost use Prim.Native.Nat.{_≤_};
+ghost use lib.ListN.{length};
+ghost use Rattle.map_betas.specs.Betas.{darts};
+ghost use Rattle.map_betas.specs.Maps.{Sized, sizeTest, breachAt, mapTest};
 
 // Refuses rows that are no whole rows of 1 to 1,048,576 darts.
 pub fn size_test(rows: &[u32]) -> Answer
@@ -44,10 +47,10 @@ fn null_breach(rows: &[u32]) -> u32
     4
 }
 
-// Refuses the first image that breaks a rule, by dart and then by beta, in one pass.
-pub fn map_test(rows: &[u32]) -> Answer
-    requires { ⌜ Sized (now rows) ⌝ }
-    ensures { λ r. ⌜ r ≡ mapTest (now (rows .entry)) ⌝ }
+// Refuses the first dart that breaks a rule, by its images and then by its flag, in one pass. The flag of dart 0 is not looked at.
+pub fn map_test(rows: &[u32], flags: &[u8]) -> Answer
+    requires { ⌜ Sized (now rows) × (darts (now rows) ≤ length (now flags)) ⌝ }
+    ensures { λ r. ⌜ r ≡ mapTest (now (rows .entry)) (now (flags .entry)) ⌝ }
 {
     let b = null_breach(rows);
     if b < 4 {
@@ -60,18 +63,10 @@ pub fn map_test(rows: &[u32]) -> Answer
         if i < 4 {
             return Answer::Refused(Refusal::NotAMap(i, d));
         }
+        if bound_at(rows, flags, d) {
+            return Answer::Refused(Refusal::NotAMap(4, d));
+        }
         d += 1;
     }
     Answer::Done(0, 0)
-}
-
-// Whether the rows are a 3-map: refusals 1 and 3.
-pub fn check_map(rows: &[u32]) -> Answer
-    ensures { λ r. ⌜ r ≡ checkMap (now (rows .entry)) ⌝ }
-{
-    let s = size_test(rows);
-    if !is_done(s) {
-        return s;
-    }
-    map_test(rows)
 }

@@ -6,7 +6,7 @@ use Prim.Native.Nat.{ℕ}
 use mathlib.Core.Path.{_≡_, refl}
 use mathlib.Core.Bool.{true, false}
 use mathlib.Core.List.{List, [], _∷_}
-use Rattle.map_betas.specs.Maps.{badSize, breaks, breachAt, firstBreach, mapTest}
+use Rattle.map_betas.specs.Maps.{badSize, breaks, breachAt, freeAt, unused, bound, firstBreach, mapTest}
 use Rattle.cell_steps.specs.Steps.{image}
 use Rattle.cell_steps.specs.Search.{mem, add, visit, search, orbit}
 use Rattle.cell_steps.specs.Idents.{leastFrom, least, ident}
@@ -31,9 +31,9 @@ triangle-report : reportOf false triangle ≡
     100 ∷ 97 ∷ 114 ∷ 116 ∷ 115 ∷ 32 ∷ 52 ∷ 32 ∷ 117 ∷ 115 ∷ 101 ∷ 100 ∷ 32 ∷ 51 ∷ 10 ∷ 118 ∷ 101 ∷ 114 ∷ 116 ∷ 105 ∷ 99 ∷ 101 ∷ 115 ∷ 32 ∷ 51 ∷ 58 ∷ 32 ∷ 49 ∷
     32 ∷ 50 ∷ 32 ∷ 51 ∷ 10 ∷ 101 ∷ 100 ∷ 103 ∷ 101 ∷ 115 ∷ 32 ∷ 51 ∷ 58 ∷ 32 ∷ 49 ∷ 32 ∷ 50 ∷ 32 ∷ 51 ∷ 10 ∷ 102 ∷ 97 ∷ 99 ∷ 101 ∷ 115 ∷ 32 ∷ 49 ∷ 58 ∷
     32 ∷ 49 ∷ 10 ∷ 118 ∷ 111 ∷ 108 ∷ 117 ∷ 109 ∷ 101 ∷ 115 ∷ 32 ∷ 49 ∷ 58 ∷ 32 ∷ 49 ∷ 10 ∷ []
-unfolding triangle badSize breaks breachAt firstBreach mapTest image mem add visit search orbit leastFrom least ident cellsFrom cellsBy fresh insert lower
-    turn leg forward backward faceWalk faceId listed word32 unless startTest layoutTest bitsOnly flagsTest recordsGood verticesTest blocksTest digits
-    itemsOf lineOf valueOf toldLine usedUpTo headLine classLine mapText answerOf imageText reportOf
+unfolding triangle badSize breaks breachAt freeAt unused bound firstBreach mapTest image mem add visit search orbit leastFrom least ident cellsFrom cellsBy
+    fresh insert lower turn leg forward backward faceWalk faceId listed word32 unless startTest layoutTest bitsOnly flagsTest recordsGood verticesTest
+    blocksTest digits itemsOf lineOf valueOf toldLine usedUpTo headLine classLine mapText answerOf imageText reportOf
 triangle-report = refl
 
 long-report : (bytes : List ℕ) → reportOf true bytes ≡ 114 ∷ 101 ∷ 102 ∷ 117 ∷ 115 ∷ 101 ∷ 100 ∷ 32 ∷ 49 ∷ 50 ∷ 32 ∷ 50 ∷ 32 ∷ 48 ∷ 32 ∷ 48 ∷ 10 ∷ []

@@ -23,14 +23,12 @@ use Rattle.map_betas.specs.Betas.{darts}
 use Rattle.map_betas.specs.Maps.{WellFormed}
 use Rattle.map_betas.proofs.AnswerLaws.{stops}
 use Rattle.map_betas.proofs.GuardLaws.{loan-none}
-use Rattle.image_words.proofs.Filled.{listed-length}
-use Rattle.image_form.specs.Form.{form1, dartsOf, verticesOf, rowsOf, Header}
+use Rattle.image_form.specs.Form.{form1, dartsOf, verticesOf, rowsOf, flagsOf, Header}
 use Rattle.image_form.specs.Tests.{headerTest}
 use Rattle.image_form.proofs.HeaderLaws.{header-done}
-use Rattle.image_form.proofs.StoredLaws.{rows-length}
+use Rattle.image_form.proofs.StoredLaws.{rows-length, flags-length}
 use Rattle.map_betas.specs.Guards.{readerLoans}
 use Rattle.image_reader.specs.Tests.{loansTest, blocksTest, imageTest}
-use Rattle.image_fill.specs.Content.{flagsOf}
 use Rattle.image_reader.specs.Reads.{Read, readOut, wrote, testOf, readWithin, Accepted}
 use Rattle.image_reader.proofs.Accepted.{loans-pass, accepted-by}
 use Rattle.cell_steps.specs.Calls.{wiped}
@@ -41,10 +39,10 @@ module _ (bytes flags vertices : List ℕ) (coordinates : List Float) (rows : Li
   abbrev test : Answer
   test = testOf 1024 bytes flags vertices coordinates rows
 
-  loans-are : dartsOf bytes ≤ 1024 → pass ≡ loansTest (dartsOf bytes) (readerLoans (length flags) (length vertices) (length coordinates)) (length rows)
+  loans-are : dartsOf bytes ≤ 1024 → pass ≡ loansTest (dartsOf bytes) (length flags) (readerLoans (length vertices) (length coordinates)) (length rows)
   loans-are m =
-      loans-pass (dartsOf bytes) (readerLoans (length flags) (length vertices) (length coordinates)) (length rows) pass
-      (loan-none (dartsOf bytes) (readerLoans (length flags) (length vertices) (length coordinates)) (omega arith) (omega arith) (omega arith)
+      loans-pass (dartsOf bytes) (length flags) (readerLoans (length vertices) (length coordinates)) (length rows) pass
+      (loan-none (dartsOf bytes) (length flags) (readerLoans (length vertices) (length coordinates)) (omega arith) (omega arith) (omega arith)
       (omega arith) (omega arith) (omega arith))
       refl (omega arith)
 
@@ -116,16 +114,16 @@ module _ (bytes flags vertices : List ℕ) (coordinates : List Float) (rows : Li
       flags-are n en =
           ap (λ (k : ℕ). take k f) en ∙ ap (λ (x : Read). take (dartsOf bytes) (x .loans .flags)) written
           ∙ take-at (flagsOf bytes (dartsOf bytes)) (drop (dartsOf bytes) flags) (dartsOf bytes)
-          (listed-length _ (dartsOf bytes))
+          (flags-length bytes (dartsOf bytes))
 
       pub formed : (n : ℕ) → n ≡ dartsOf bytes → WellFormed (take (4 * n) r)
-      formed n en = rw (rows-are n en) (fit .formed)
+      formed n en = rw (rows-are n en) (fit .map .formed)
 
       pub rows-n : (n : ℕ) → n ≡ dartsOf bytes → length (take (4 * n) r) ≡ 4 * dartsOf bytes
       rows-n n en = ap length (rows-are n en) ∙ rows-length bytes (dartsOf bytes)
 
       pub flags-n : (n : ℕ) → n ≡ dartsOf bytes → length (take n f) ≡ dartsOf bytes
-      flags-n n en = ap length (flags-are n en) ∙ listed-length _ (dartsOf bytes)
+      flags-n n en = ap length (flags-are n en) ∙ flags-length bytes (dartsOf bytes)
 
       pub done-is : (m : Bool) → m ≡ false → (n : ℕ) → n ≡ dartsOf bytes → mapText (take (4 * n) r) (take n f) ≡ reportOf m bytes
       unfolding reportOf imageText

@@ -24,10 +24,9 @@ use Rattle.map_betas.specs.declared.error.Refusal.the-variants.{BadImage}
 use Rattle.map_betas.specs.declared.error.Told.{Told}
 use Rattle.map_betas.specs.Answers.{isDone, andThen, tellOf}
 use Rattle.map_betas.specs.Betas.{darts}
-use Rattle.image_form.specs.Form.{dartsOf, verticesOf, rowsOf}
+use Rattle.image_form.specs.Form.{dartsOf, verticesOf, rowsOf, flagsOf}
 use Rattle.image_form.specs.Tests.{headerTest}
 use Rattle.image_reader.specs.Tests.{blocksTest}
-use Rattle.image_fill.specs.Content.{flagsOf}
 use Rattle.image_reader.specs.Reads.{wrote}
 use Rattle.cell_steps.specs.Calls.{wiped, headed}
 use Rattle.cell_steps.specs.declared.cells.Class.{Class}

@@ -1,4 +1,4 @@
-// The calls: sews for any rows, loans and darts.
+// The calls: sews for any rows, flags, loans and darts.
 use map_betas::error::Answer;
 use sew_operations::operations::Operation;
 use sew_tested::tested::operate;
@@ -12,14 +12,15 @@ pub fn one_sew(
     rows: &mut [u32],
     marks: &mut [u8],
     queue: &mut [u32],
+    flags: &[u8],
     plan: &mut [u32],
     ld: u32,
     rd: u32,
 ) -> Answer
     ensures { λ a. ⌜ outcome a (now (rows .exit), now (marks .exit), now (queue .exit), now (plan .exit))
-        ≡ oneSew (now (rows .entry)) (now (marks .entry)) (now (queue .entry)) (now (plan .entry)) ld rd ⌝ }
+        ≡ oneSew (now (rows .entry)) (now (marks .entry)) (now (queue .entry)) (now (flags .entry)) (now (plan .entry)) ld rd ⌝ }
 {
-    operate_bare(Operation::OneSew, rows, marks, queue, plan, ld, rd)
+    operate_bare(Operation::OneSew, rows, marks, queue, flags, plan, ld, rd)
 }
 
 // The 2-sew.
@@ -27,6 +28,7 @@ pub fn two_sew(
     rows: &mut [u32],
     marks: &mut [u8],
     queue: &mut [u32],
+    flags: &[u8],
     vertices: &[u8],
     coordinates: &[f64],
     plan: &mut [u32],
@@ -34,13 +36,15 @@ pub fn two_sew(
     rd: u32,
 ) -> Answer
     ensures { λ a. ⌜ outcome a (now (rows .exit), now (marks .exit), now (queue .exit), now (plan .exit))
-        ≡ twoSew (now (rows .entry)) (now (marks .entry)) (now (queue .entry)) (now (vertices .entry)) (now (coordinates .entry)) (now (plan .entry)) ld rd ⌝ }
+        ≡ twoSew (now (rows .entry)) (now (marks .entry)) (now (queue .entry)) (now (flags .entry)) (now (vertices .entry)) (now (coordinates .entry))
+        (now (plan .entry)) ld rd ⌝ }
 {
     operate(
         Operation::TwoSew,
         rows,
         marks,
         queue,
+        flags,
         vertices,
         coordinates,
         plan,

@@ -3,42 +3,37 @@
 --   sew-call       the call of a sew's name is its work behind the tests
 --   call-on-map    on a map, with loans that are long enough, the call is what the code runs
 --   called-on-map  the same of an operation's number
---   core-kept      a command leaves a map of as many darts, done or refused
---   run-kept       the same of an operation's number
+--   work-keeps, core-goes   what a sew or unsew and what a command leaves: the rows, or rows in which no other dart that was free is linked
+--   run-formed, run-kept    so a command leaves well-formed rows well formed and as many, and a map a map, done or refused
 --   call-refused   a refused command leaves rows and plan, whatever they are
 --   slots-are, work-second, tested-refused, tested-done, run-is   what the code has found and run
 -- Assumes nothing.
 use Prim.Native.Nat.{ℕ, zero, suc, _+_, _*_, _≤_}
 use native.Mathlib.Decide.{ℕ-discrete}
 use native.Mathlib.Omega.{arith}
-use mathlib.Core.Path.{_≡_, refl, sym, ap, _∙_, subst}
-use mathlib.Core.Logic.{_≢_, by-cases}
+use mathlib.Core.Path.{_≡_, refl, sym, ap, _∙_}
+use mathlib.Core.Logic.{_≢_, _⊎_, inl, inr, ⊎-elim, by-cases}
 use mathlib.Core.Bool.{Bool, true, false, cond}
 use mathlib.Core.List.{List, [], _∷_}
 use lib.Ieee.{Float}
 use lib.ListN.{length, getD}
 use Rattle.map_betas.specs.declared.error.Answer.{Answer}
 use Rattle.map_betas.specs.declared.error.Answer.the-variants.{Done, Refused}
-use Rattle.map_betas.specs.declared.error.Refusal.the-variants.{BadGeometry}
 use Rattle.map_betas.specs.Betas.{darts}
-use Rattle.map_betas.specs.Answers.{Outcome, isDone}
-use Rattle.map_betas.specs.Maps.{WellFormed}
+use Rattle.map_betas.specs.Answers.{isDone, outcome, given}
+use Rattle.map_betas.specs.Maps.{WellFormed, unused, Map, Keeps, Stays}
 use Rattle.map_betas.specs.Guards.{guardOf, dartTest, Lent, Dart}
-use Rattle.map_betas.specs.Cores.{linkCore}
-use Rattle.map_betas.proofs.Always.{link-formed, link-length, unlink-formed, unlink-length}
 use Rattle.map_betas.proofs.GuardLaws.{are-darts}
-use Rattle.link_walk.proofs.Kept.{Keeps, unlink-kept}
+use Rattle.map_betas.proofs.Spared.{kept-map}
+use Rattle.link_run.specs.Links.{linkOn, linkSecond, linkTested}
 use Rattle.map_betas.proofs.Guarded.{on-map}
-use Rattle.link_run.proofs.LinkLaws.{link-on-map, link-kept, link-unmoved}
-use Rattle.sew_ground.specs.Sewn.{Sewn, Work, work, leaves, sewn}
-use Rattle.sew_ground.specs.One.{oneSewOn, oneUnsewOn}
-use Rattle.sew_ground.specs.Two.{sideOf, badSides, linkedSides, twoSewOn, twoUnsewOn}
+use Rattle.link_run.proofs.LinkLaws.{link-on-map, on-keeps, link-unmoved}
+use Rattle.sew_ground.specs.Sewn.{Sewn, Work, leaves, sewn}
 use Rattle.sew_ground.specs.Calls.{sewCall, oneSew, oneUnsew, twoSew, twoUnsew}
-use Rattle.sew_ground.proofs.OneBack.{links-formed, unlinks-formed}
+use Rattle.sew_ground.proofs.SewKept.{sewn-kept, one-sew-kept, one-unsew-kept, two-sew-kept, two-unsew-kept}
 use Rattle.sew_ground.proofs.Demand.{call-one-sew-refused, call-one-unsew-refused, call-two-sew-refused, call-two-unsew-refused}
-use Rattle.sew_pairs.specs.Three.{threeUnsewOn}
 use Rattle.sew_pairs.specs.Calls.{threeUnsew}
-use Rattle.sew_pairs.proofs.UnsewLaws.{sewn-kept, call-three-unsew-refused}
+use Rattle.sew_pairs.proofs.UnsewLaws.{three-kept, call-three-unsew-refused}
 use Rattle.sew_operations.specs.declared.operations.Operation.{Operation}
 use Rattle.sew_operations.specs.declared.operations.Operation.the-variants.{OneSew, OneUnsew, TwoSew, TwoUnsew, ThreeUnsew}
 use Rattle.sew_operations.specs.Operations.{workOf, loansOf, Slots}
@@ -77,7 +72,7 @@ no-command operation a b c d e f g h i j k =
 module _ (lent : Lending) (rows plan : List ℕ) where
   pub sew-call : (o : Operation) (ld rd : ℕ) → sewCallOf o lent rows plan ld rd ≡
       sewCall
-      (guardOf rows (loansOf o (length (lent .marks)) (length (lent .queue)) (length (lent .vertices)) (length (lent .coordinates))) 1 ld (sewSecond o ld rd))
+      (guardOf rows (lent .flags) (loansOf o (length (lent .marks)) (length (lent .queue)) (length (lent .vertices)) (length (lent .coordinates))) 1 ld (sewSecond o ld rd))
       rows (lent .marks) (lent .queue) plan (workOf o (lent .vertices) (lent .coordinates) rows ld rd)
   unfolding oneSew oneUnsew twoSew twoUnsew threeUnsew
   sew-call OneSew ld rd = refl
@@ -90,27 +85,26 @@ module _ (lent : Lending) (rows plan : List ℕ) where
   behind-darts (Done d k) w = refl
   behind-darts (Refused x) w = refl
 
-  module _ (w : WellFormed rows) (long : LongEnough (darts rows) lent) where
+  module _ (m : Map rows (lent .flags)) (long : LongEnough (darts rows) lent) where
     loans-lent : (o : Operation) →
         Lent (darts rows) (loansOf o (length (lent .marks)) (length (lent .queue)) (length (lent .vertices)) (length (lent .coordinates)))
     loans-lent = go
       where
         bare : Lent (darts rows) (loansOf OneSew (length (lent .marks)) (length (lent .queue)) (length (lent .vertices)) (length (lent .coordinates)))
         bare =
-            let few = w .sized .few in
-            record { marks = long .marks; queue = long .queue; output = omega arith; flags = omega arith; vertices = omega arith; coordinates = omega arith }
+            let few = m .formed .sized .few in
+            record { marks = long .marks; queue = long .queue; output = omega arith; vertices = omega arith; coordinates = omega arith }
 
         go : (k : Operation) →
             Lent (darts rows) (loansOf k (length (lent .marks)) (length (lent .queue)) (length (lent .vertices)) (length (lent .coordinates)))
         go OneSew = bare
         go OneUnsew = bare
         go TwoSew =
-            let few = w .sized .few in
+            let few = m .formed .sized .few in
             record {
               marks = long .marks;
               queue = long .queue;
               output = omega arith;
-              flags = omega arith;
               vertices = long .vertices;
               coordinates = long .coordinates;
             }
@@ -118,62 +112,74 @@ module _ (lent : Lending) (rows plan : List ℕ) where
         go ThreeUnsew = bare
 
     pub call-on-map : (c : Command) (operation ld rd : ℕ) →
-        callOf c lent operation ld rd rows plan ≡ coreOf c (lent .vertices) (lent .coordinates) operation ld rd rows plan
+        callOf c lent operation ld rd rows plan ≡ coreOf c (lent .flags) (lent .vertices) (lent .coordinates) operation ld rd rows plan
     unfolding sewTested
-    call-on-map (Links l) operation ld rd = ap (λ o. onRows o plan) (link-on-map l rows ld rd w)
+    call-on-map (Links l) operation ld rd = ap (λ o. onRows o plan) (link-on-map l rows (lent .flags) ld rd m)
     call-on-map (Sews o) operation ld rd =
         let x : Work = workOf o (lent .vertices) (lent .coordinates) rows ld rd in
         ap onPlan
         (sew-call o ld rd
-        ∙ ap (λ (g : Answer). sewCall g rows (lent .marks) (lent .queue) plan x) (on-map rows _ 1 ld (sewSecond o ld rd) w (loans-lent o)))
-        ∙ behind-darts (dartTest (darts rows) 1 ld (sewSecond o ld rd)) x
+        ∙ ap (λ (g : Answer). sewCall g rows (lent .marks) (lent .queue) plan x) (on-map rows (lent .flags) _ 1 ld (sewSecond o ld rd) m (loans-lent o)))
+        ∙ behind-darts (dartTest (darts rows) (lent .flags) 1 ld (sewSecond o ld rd)) x
     call-on-map Unknown operation ld rd = refl
 
-    pub called-on-map : (operation ld rd : ℕ) → called lent operation ld rd rows plan ≡ run (lent .vertices) (lent .coordinates) operation ld rd rows plan
+    pub called-on-map : (operation ld rd : ℕ) → called lent operation ld rd rows plan ≡ run (lent .flags) (lent .vertices) (lent .coordinates) operation ld rd rows plan
     unfolding called run
     called-on-map operation ld rd = call-on-map (commandOf operation) operation ld rd
 
 -- ---- a map stays a map
 
-module _ (vertices : List ℕ) (coordinates : List Float) (rows : List ℕ) (w : WellFormed rows) where
-  two-kept : (ld rd : ℕ) → Dart (darts rows) 1 ld → Dart (darts rows) 1 rd → Keeps rows (twoSewOn vertices coordinates rows ld rd .rows)
-  unfolding twoSewOn linkedSides
-  two-kept ld rd dl dr = go (badSides vertices coordinates (sideOf rows ld) (sideOf rows rd))
+module _ (flags vertices : List ℕ) (coordinates : List Float) (rows : List ℕ) (w : WellFormed rows) where
+  work-keeps : (o : Operation) (ld rd : ℕ) → Dart (darts rows) 1 ld → Dart (darts rows) 1 (sewSecond o ld rd) →
+      Keeps ld (sewSecond o ld rd) rows (workOf o vertices coordinates rows ld rd .rows)
+  work-keeps OneSew ld rd dl dr = one-sew-kept rows ld w rd dl dr
+  work-keeps OneUnsew ld rd dl dr = one-unsew-kept rows ld w
+  work-keeps TwoSew ld rd dl dr = two-sew-kept rows ld w vertices coordinates rd dl dr
+  work-keeps TwoUnsew ld rd dl dr = two-unsew-kept rows ld w
+  work-keeps ThreeUnsew ld rd dl dr = three-kept rows ld w dl
+
+  -- what a command leaves: the rows, or rows of a core whose darts are in use
+  abbrev Goes : ℕ → List ℕ → Type 0
+  Goes ld rows₁ = (rows₁ ≡ rows) ⊎ ((x : ℕ) × (unused flags ld ≡ false) × (unused flags x ≡ false) × Keeps ld x rows rows₁)
+
+  core-goes : (c : Command) (operation ld rd : ℕ) (plan : List ℕ) → Goes ld (coreOf c flags vertices coordinates operation ld rd rows plan .rows)
+  unfolding sewTested linkTested
+  core-goes (Links l) operation ld rd plan = go (isDone (dartTest (darts rows) flags 1 ld (linkSecond l ld rd))) refl
     where
-      linked : Keeps rows (linkCore rows 2 ld rd .rows)
-      linked = (link-formed rows 2 ld rd w (omega arith) (omega arith) dl dr, link-length rows 2 ld rd w (omega arith) (omega arith) dl dr)
-
-      go : (b : Bool) →
-          Keeps rows (cond b (work (Refused (BadGeometry 2 ld rd)) rows []) (linkedSides rows ld rd (sideOf rows ld) (sideOf rows rd)) .rows)
-      go true = (w, refl)
-      go false = linked
-
-  work-kept : (o : Operation) (ld rd : ℕ) → Dart (darts rows) 1 ld → Dart (darts rows) 1 (sewSecond o ld rd) →
-      Keeps rows (workOf o vertices coordinates rows ld rd .rows)
-  unfolding oneSewOn oneUnsewOn twoUnsewOn threeUnsewOn
-  work-kept OneSew ld rd dl dr = links-formed rows ld rd w dl dr
-  work-kept OneUnsew ld rd dl dr = unlinks-formed rows ld w
-  work-kept TwoSew ld rd dl dr = two-kept ld rd dl dr
-  work-kept TwoUnsew ld rd dl dr = (unlink-formed rows 2 ld w (omega arith) (omega arith), unlink-length rows 2 ld w (omega arith) (omega arith))
-  work-kept ThreeUnsew ld rd dl dr = let h = dl .allowed in unlink-kept rows ld w (dl .below) (omega arith)
-
-  pub core-kept : (c : Command) (operation ld rd : ℕ) (plan : List ℕ) → Keeps rows (coreOf c vertices coordinates operation ld rd rows plan .rows)
-  unfolding sewTested
-  core-kept (Links l) operation ld rd plan = subst (λ (o : Outcome (List ℕ)). Keeps rows (o .loans)) (link-on-map l rows ld rd w) (link-kept l rows ld rd w)
-  core-kept (Sews o) operation ld rd plan = go (isDone (dartTest (darts rows) 1 ld (sewSecond o ld rd))) refl
-    where
-      go : (b : Bool) → isDone (dartTest (darts rows) 1 ld (sewSecond o ld rd)) ≡ b →
-          Keeps rows
-          (cond b (sewn rows plan (workOf o vertices coordinates rows ld rd)) (leaves (dartTest (darts rows) 1 ld (sewSecond o ld rd)) rows plan) .rows)
+      go : (b : Bool) → isDone (dartTest (darts rows) flags 1 ld (linkSecond l ld rd)) ≡ b →
+          Goes ld (cond b (given (linkOn l rows ld rd)) (outcome (dartTest (darts rows) flags 1 ld (linkSecond l ld rd)) rows) .loans)
       go true e =
-          let d = are-darts (darts rows) 1 ld (sewSecond o ld rd) e in
-          sewn-kept rows plan w (workOf o vertices coordinates rows ld rd) (work-kept o ld rd (d .0) (d .1))
-      go false e = (w, refl)
-  core-kept Unknown operation ld rd plan = (w, refl)
+          let d = are-darts (darts rows) flags 1 ld (linkSecond l ld rd) e in
+          inr (linkSecond l ld rd, d .0 .1 (omega arith), d .1 .1 (omega arith), on-keeps l rows ld rd w (d .0 .0) (d .1 .0))
+      go false e = inl refl
+  core-goes (Sews o) operation ld rd plan = go (isDone (dartTest (darts rows) flags 1 ld (sewSecond o ld rd))) refl
+    where
+      go : (b : Bool) → isDone (dartTest (darts rows) flags 1 ld (sewSecond o ld rd)) ≡ b →
+          Goes ld
+          (cond b (sewn rows plan (workOf o vertices coordinates rows ld rd)) (leaves (dartTest (darts rows) flags 1 ld (sewSecond o ld rd)) rows plan) .rows)
+      go true e =
+          let d = are-darts (darts rows) flags 1 ld (sewSecond o ld rd) e in
+          inr (
+            sewSecond o ld rd,
+            d .0 .1 (omega arith),
+            d .1 .1 (omega arith),
+            sewn-kept ld (sewSecond o ld rd) rows plan w (workOf o vertices coordinates rows ld rd) (work-keeps o ld rd (d .0 .0) (d .1 .0)),
+          )
+      go false e = inl refl
+  core-goes Unknown operation ld rd plan = inl refl
 
-  pub run-kept : (operation ld rd : ℕ) (plan : List ℕ) → Keeps rows (run vertices coordinates operation ld rd rows plan .rows)
+  -- well-formed rows stay so, and a map a map
+  pub run-formed : (operation ld rd : ℕ) (plan : List ℕ) →
+      WellFormed (run flags vertices coordinates operation ld rd rows plan .rows)
+      × (length (run flags vertices coordinates operation ld rd rows plan .rows) ≡ length rows)
   unfolding run
-  run-kept operation ld rd plan = core-kept (commandOf operation) operation ld rd plan
+  run-formed operation ld rd plan =
+      ⊎-elim (λ e. rw e (w, refl)) (λ k. (k .3 .0, k .3 .1)) (core-goes (commandOf operation) operation ld rd plan)
+
+  pub run-kept : Map rows flags → (operation ld rd : ℕ) (plan : List ℕ) → Stays flags rows (run flags vertices coordinates operation ld rd rows plan .rows)
+  unfolding run
+  run-kept m operation ld rd plan =
+      ⊎-elim (λ e. rw e (m, refl)) (λ k. kept-map ld (k .0) rows flags _ m (k .1) (k .2) (k .3)) (core-goes (commandOf operation) operation ld rd plan)
 
 -- ---- a refused command changes nothing
 
@@ -182,15 +188,15 @@ module _ (lent : Lending) (rows plan : List ℕ) where
   Left s = (s .rows ≡ rows) × (s .plan ≡ plan)
 
   sew-left : (o : Operation) (ld rd : ℕ) → isDone (sewCallOf o lent rows plan ld rd .answer) ≡ false → Left (onPlan (sewCallOf o lent rows plan ld rd))
-  sew-left OneSew ld rd = call-one-sew-refused rows (lent .marks) (lent .queue) plan ld rd
-  sew-left OneUnsew ld rd = call-one-unsew-refused rows (lent .marks) (lent .queue) plan ld
-  sew-left TwoSew ld rd = call-two-sew-refused rows (lent .marks) (lent .queue) plan ld (lent .vertices) (lent .coordinates) rd
-  sew-left TwoUnsew ld rd = call-two-unsew-refused rows (lent .marks) (lent .queue) plan ld
-  sew-left ThreeUnsew ld rd = call-three-unsew-refused rows (lent .marks) (lent .queue) plan ld
+  sew-left OneSew ld rd = call-one-sew-refused rows (lent .marks) (lent .queue) (lent .flags) plan ld rd
+  sew-left OneUnsew ld rd = call-one-unsew-refused rows (lent .marks) (lent .queue) (lent .flags) plan ld
+  sew-left TwoSew ld rd = call-two-sew-refused rows (lent .marks) (lent .queue) (lent .flags) plan ld (lent .vertices) (lent .coordinates) rd
+  sew-left TwoUnsew ld rd = call-two-unsew-refused rows (lent .marks) (lent .queue) (lent .flags) plan ld
+  sew-left ThreeUnsew ld rd = call-three-unsew-refused rows (lent .marks) (lent .queue) (lent .flags) plan ld
 
   call-left : (c : Command) (operation ld rd : ℕ) → isDone (callOf c lent operation ld rd rows plan .answer) ≡ false →
       Left (callOf c lent operation ld rd rows plan)
-  call-left (Links l) operation ld rd t = (link-unmoved l rows ld rd t, refl)
+  call-left (Links l) operation ld rd t = (link-unmoved l rows (lent .flags) ld rd t, refl)
   call-left (Sews o) operation ld rd t = sew-left o ld rd t
   call-left Unknown operation ld rd t = (refl, refl)
 
@@ -217,27 +223,27 @@ work-second TwoSew vertices coordinates rows ld rd = refl
 work-second TwoUnsew vertices coordinates rows ld rd = refl
 work-second ThreeUnsew vertices coordinates rows ld rd = refl
 
-module _ (o : Operation) (vertices : List ℕ) (coordinates : List Float) (ld rd : ℕ) (rows plan : List ℕ) (x : ℕ) (e : x ≡ sewSecond o ld rd) (t : Answer)
-    (f : t ≡ dartTest (darts rows) 1 ld x) where
-  tests : t ≡ dartTest (darts rows) 1 ld (sewSecond o ld rd)
-  tests = f ∙ ap (dartTest (darts rows) 1 ld) e
+module _ (o : Operation) (flags vertices : List ℕ) (coordinates : List Float) (ld rd : ℕ) (rows plan : List ℕ) (x : ℕ) (e : x ≡ sewSecond o ld rd) (t : Answer)
+    (f : t ≡ dartTest (darts rows) flags 1 ld x) where
+  tests : t ≡ dartTest (darts rows) flags 1 ld (sewSecond o ld rd)
+  tests = f ∙ ap (dartTest (darts rows) flags 1 ld) e
 
-  pub tested-refused : isDone t ≡ false → leaves t rows plan ≡ sewTested o vertices coordinates ld rd rows plan
+  pub tested-refused : isDone t ≡ false → leaves t rows plan ≡ sewTested o flags vertices coordinates ld rd rows plan
   unfolding sewTested
   tested-refused d = simp (← tests, d)
 
   pub tested-done : (s : Sewn) → isDone t ≡ true → s ≡ sewn rows plan (workOf o vertices coordinates rows ld x) →
-      s ≡ sewTested o vertices coordinates ld rd rows plan
+      s ≡ sewTested o flags vertices coordinates ld rd rows plan
   unfolding sewTested
   tested-done s d q =
       q ∙ ap (λ (y : ℕ). sewn rows plan (workOf o vertices coordinates rows ld y)) e
       ∙ ap (sewn rows plan) (work-second o vertices coordinates rows ld rd)
-      ∙ sym (ap (λ (b : Bool). cond b (sewn rows plan (workOf o vertices coordinates rows ld rd)) (leaves (dartTest (darts rows) 1 ld (sewSecond o ld rd)) rows
+      ∙ sym (ap (λ (b : Bool). cond b (sewn rows plan (workOf o vertices coordinates rows ld rd)) (leaves (dartTest (darts rows) flags 1 ld (sewSecond o ld rd)) rows
       plan)) (ap isDone (sym tests) ∙ d))
 
 -- what the code's match has found
-pub run-is : (vertices : List ℕ) (coordinates : List Float) (operation ld rd : ℕ) (rows plan : List ℕ) (c k : Command) (s : Sewn) → c ≡ commandOf operation →
-    c ≡ k → s ≡ coreOf k vertices coordinates operation ld rd rows plan → s ≡ run vertices coordinates operation ld rd rows plan
+pub run-is : (flags vertices : List ℕ) (coordinates : List Float) (operation ld rd : ℕ) (rows plan : List ℕ) (c k : Command) (s : Sewn) → c ≡ commandOf operation →
+    c ≡ k → s ≡ coreOf k flags vertices coordinates operation ld rd rows plan → s ≡ run flags vertices coordinates operation ld rd rows plan
 unfolding run
-run-is vertices coordinates operation ld rd rows plan c k s e f h =
-    h ∙ ap (λ (x : Command). coreOf x vertices coordinates operation ld rd rows plan) (sym f ∙ e)
+run-is flags vertices coordinates operation ld rd rows plan c k s e f h =
+    h ∙ ap (λ (x : Command). coreOf x flags vertices coordinates operation ld rd rows plan) (sym f ∙ e)

@@ -83,9 +83,9 @@ either-answer : (b : Bool) (x y : Answer) → Plain x → Plain y → Plain (con
 either-answer true x y p q = p
 either-answer false x y p q = q
 
-darts-plain : (n a b : ℕ) → Plain (dartTest n 1 a b)
-darts-plain n a b =
-    either-answer (noDart n 1 a) (Refused (BadDart 1)) _ tt (either-answer (noDart n 1 b) (Refused (BadDart 2)) pass tt refl)
+darts-plain : (n : ℕ) (flags : List ℕ) (a b : ℕ) → Plain (dartTest n flags 1 a b)
+darts-plain n flags a b =
+    either-answer (noDart n flags 1 a) (Refused (BadDart 1)) _ tt (either-answer (noDart n flags 1 b) (Refused (BadDart 2)) pass tt refl)
 
 -- ---- the answer of a sew's work
 
@@ -266,41 +266,41 @@ sewn-held rows plan w p h = go (isDone (w .answer))
     go true = settled-held plan (dartOf (w .answer)) (w .entries) h
     go false = plain-held plan (w .answer) p
 
-tested-plain : (l : Link) (rows : List ℕ) (ld rd : ℕ) → Plain (linkTested l rows ld rd .answer)
+tested-plain : (l : Link) (rows flags : List ℕ) (ld rd : ℕ) → Plain (linkTested l rows flags ld rd .answer)
 unfolding linkTested
-tested-plain l rows ld rd = go (isDone (dartTest (darts rows) 1 ld (linkSecond l ld rd)))
+tested-plain l rows flags ld rd = go (isDone (dartTest (darts rows) flags 1 ld (linkSecond l ld rd)))
   where
     go : (b : Bool) →
-        Plain (cond b (given (linkOn l rows ld rd)) (outcome (dartTest (darts rows) 1 ld (linkSecond l ld rd)) rows) .answer)
+        Plain (cond b (given (linkOn l rows ld rd)) (outcome (dartTest (darts rows) flags 1 ld (linkSecond l ld rd)) rows) .answer)
     go true = link-plain l rows ld rd
-    go false = darts-plain (darts rows) ld (linkSecond l ld rd)
+    go false = darts-plain (darts rows) flags ld (linkSecond l ld rd)
 
-module _ (vertices : List ℕ) (coordinates : List Float) (rows plan : List ℕ) (w : WellFormed rows) where
+module _ (flags vertices : List ℕ) (coordinates : List Float) (rows plan : List ℕ) (w : WellFormed rows) where
   pub core-held : (c : Command) (operation ld rd : ℕ) →
-      Held plan (coreOf c vertices coordinates operation ld rd rows plan .answer) (coreOf c vertices coordinates operation ld rd rows plan .plan)
+      Held plan (coreOf c flags vertices coordinates operation ld rd rows plan .answer) (coreOf c flags vertices coordinates operation ld rd rows plan .plan)
   unfolding sewTested
-  core-held (Links l) operation ld rd = plain-held plan (linkTested l rows ld rd .answer) (tested-plain l rows ld rd)
-  core-held (Sews o) operation ld rd = go (isDone (dartTest (darts rows) 1 ld (sewSecond o ld rd))) refl
+  core-held (Links l) operation ld rd = plain-held plan (linkTested l rows flags ld rd .answer) (tested-plain l rows flags ld rd)
+  core-held (Sews o) operation ld rd = go (isDone (dartTest (darts rows) flags 1 ld (sewSecond o ld rd))) refl
     where
       by : Bool → Sewn
-      by b = cond b (sewn rows plan (workOf o vertices coordinates rows ld rd)) (leaves (dartTest (darts rows) 1 ld (sewSecond o ld rd)) rows plan)
+      by b = cond b (sewn rows plan (workOf o vertices coordinates rows ld rd)) (leaves (dartTest (darts rows) flags 1 ld (sewSecond o ld rd)) rows plan)
 
-      go : (b : Bool) → isDone (dartTest (darts rows) 1 ld (sewSecond o ld rd)) ≡ b → Held plan (by b .answer) (by b .plan)
+      go : (b : Bool) → isDone (dartTest (darts rows) flags 1 ld (sewSecond o ld rd)) ≡ b → Held plan (by b .answer) (by b .plan)
       go true e =
           sewn-held rows plan (workOf o vertices coordinates rows ld rd) (work-plain o vertices coordinates rows ld rd)
-          (work-few vertices coordinates rows w o ld rd (are-darts (darts rows) 1 ld (sewSecond o ld rd) e .0))
-      go false e = plain-held plan (dartTest (darts rows) 1 ld (sewSecond o ld rd)) (darts-plain (darts rows) ld (sewSecond o ld rd))
+          (work-few vertices coordinates rows w o ld rd (are-darts (darts rows) flags 1 ld (sewSecond o ld rd) e .0 .0))
+      go false e = plain-held plan (dartTest (darts rows) flags 1 ld (sewSecond o ld rd)) (darts-plain (darts rows) flags ld (sewSecond o ld rd))
   core-held Unknown operation ld rd = (tt, refl, omega arith)
 
   module _ (operation ld rd : ℕ) where
-    pub run-fits : Fits (run vertices coordinates operation ld rd rows plan .answer)
+    pub run-fits : Fits (run flags vertices coordinates operation ld rd rows plan .answer)
     unfolding run
     run-fits = core-held (commandOf operation) operation ld rd .0
 
-    pub run-long : length (run vertices coordinates operation ld rd rows plan .plan) ≡ length plan
+    pub run-long : length (run flags vertices coordinates operation ld rd rows plan .plan) ≡ length plan
     unfolding run
     run-long = core-held (commandOf operation) operation ld rd .1
 
-    pub run-room : width * countOf (run vertices coordinates operation ld rd rows plan .answer) ≤ length plan
+    pub run-room : width * countOf (run flags vertices coordinates operation ld rd rows plan .answer) ≤ length plan
     unfolding run
     run-room = core-held (commandOf operation) operation ld rd .2

@@ -26,7 +26,7 @@ use Rattle.sew_answers.specs.Words.{answerWidth, answerWords, countOf, answered
 use Rattle.sew_answers.proofs.AnswerLaws.{answered-front, answered-back, answered-long}
 use Rattle.sew_commands.specs.Commands.{run}
 use Rattle.sew_commands.specs.Lists.{Step, Made, makes, before, leftOf, writtenBy, made, Turn, turn, nth, afterTurn, turnOf, filled}
-use Rattle.sew_commands.proofs.CommandLaws.{run-kept}
+use Rattle.sew_commands.proofs.CommandLaws.{run-formed}
 use Rattle.sew_commands.proofs.RoomLaws.{run-fits, run-long, run-room}
 use Rattle.sew_commands.proofs.ListLaws.{made-turn, made-over, before-none, before-before, take-behind, drop-behind}
 
@@ -40,11 +40,11 @@ pub record Making (step : Step) (list rows₀ output₀ plan₀ : List ℕ) (k :
   pub ahead : before (take (answerWidth * k) (t .output)) (t .written) (take (width * t .written) (t .plan)) (made step (drop (3 * k) list) (t .rows)
       (drop (width * t .written) (t .plan))) ≡ made step list rows₀ plan₀
 
-module _ (vertices : List ℕ) (coordinates : List Float) (list rows₀ output₀ plan₀ : List ℕ) where
+module _ (flags vertices : List ℕ) (coordinates : List Float) (list rows₀ output₀ plan₀ : List ℕ) where
   abbrev step : Step
-  step = run vertices coordinates
+  step = run flags vertices coordinates
 
-  pub making-starts : WellFormed rows₀ → Making (run vertices coordinates) list rows₀ output₀ plan₀ 0 (turn 0 rows₀ output₀ plan₀)
+  pub making-starts : WellFormed rows₀ → Making (run flags vertices coordinates) list rows₀ output₀ plan₀ 0 (turn 0 rows₀ output₀ plan₀)
   making-starts w =
       record {
         formed = w;
@@ -56,7 +56,7 @@ module _ (vertices : List ℕ) (coordinates : List Float) (list rows₀ output�
         ahead = before-none (made step list rows₀ plan₀);
       }
 
-  module _ (k written : ℕ) (rows output plan : List ℕ) (m : Making (run vertices coordinates) list rows₀ output₀ plan₀ k (turn written rows output plan))
+  module _ (k written : ℕ) (rows output plan : List ℕ) (m : Making (run flags vertices coordinates) list rows₀ output₀ plan₀ k (turn written rows output plan))
       (more : 3 * k + 3 ≤ length list) (room : answerWidth * k + answerWidth ≤ length output) where
     -- what the command leaves, the entries that it has written, and the plan with its part come back
     s : Sewn
@@ -72,10 +72,10 @@ module _ (vertices : List ℕ) (coordinates : List Float) (list rows₀ output�
     first-long = length-take-le (width * written) plan (m .fits)
 
     s-long : length (nth step list k rows (drop (width * written) plan) .plan) ≡ length (drop (width * written) plan)
-    s-long = run-long vertices coordinates rows (drop (width * written) plan) (m .formed) _ _ _
+    s-long = run-long flags vertices coordinates rows (drop (width * written) plan) (m .formed) _ _ _
 
     s-room : width * countOf (nth step list k rows (drop (width * written) plan) .answer) ≤ length (drop (width * written) plan)
-    s-room = run-room vertices coordinates rows (drop (width * written) plan) (m .formed) _ _ _
+    s-room = run-room flags vertices coordinates rows (drop (width * written) plan) (m .formed) _ _ _
 
     made-ahead : before (take (answerWidth * (k + 1)) (answered output k (s .answer))) (written + e) (take (width * (written + e)) plan₁) (made step
         (drop (3 * (k + 1)) list) (s .rows) (drop (width * (written + e)) plan₁)) ≡ made step list rows₀ plan₀
@@ -96,10 +96,10 @@ module _ (vertices : List ℕ) (coordinates : List Float) (list rows₀ output�
         ∙ ap (before (take (answerWidth * k) output) written p) (sym (made-turn step list k rows (drop (width * written) plan) more))
         ∙ m .ahead
 
-    turned : Making (run vertices coordinates) list rows₀ output₀ plan₀ (k + 1) (turnOf (run vertices coordinates) list k written rows output plan)
+    turned : Making (run flags vertices coordinates) list rows₀ output₀ plan₀ (k + 1) (turnOf (run flags vertices coordinates) list k written rows output plan)
     unfolding turnOf s e plan₁
     turned =
-        let kept = run-kept vertices coordinates rows (m .formed) _ _ _ (drop (width * written) plan) in
+        let kept = run-formed flags vertices coordinates rows (m .formed) _ _ _ (drop (width * written) plan) in
         let sl = s-long in
         let sr = s-room in
         let fl = first-long in
@@ -120,13 +120,13 @@ module _ (vertices : List ℕ) (coordinates : List Float) (list rows₀ output�
           ahead = made-ahead;
         }
 
-    pub making-turn : (t : Turn) → t ≡ turnOf (run vertices coordinates) list k written rows output plan →
-        Making (run vertices coordinates) list rows₀ output₀ plan₀ (k + 1) t
-    making-turn t q = subst (Making (run vertices coordinates) list rows₀ output₀ plan₀ (k + 1)) (sym q) turned
+    pub making-turn : (t : Turn) → t ≡ turnOf (run flags vertices coordinates) list k written rows output plan →
+        Making (run flags vertices coordinates) list rows₀ output₀ plan₀ (k + 1) t
+    making-turn t q = subst (Making (run flags vertices coordinates) list rows₀ output₀ plan₀ (k + 1)) (sym q) turned
 
   pub making-ends : (k written : ℕ) (rows output plan : List ℕ) →
-      Making (run vertices coordinates) list rows₀ output₀ plan₀ k (turn written rows output plan) → k ≡ length list / 3 →
-      answerWidth * k ≤ length output → turn written rows output plan ≡ filled output₀ (made (run vertices coordinates) list rows₀ plan₀)
+      Making (run flags vertices coordinates) list rows₀ output₀ plan₀ k (turn written rows output plan) → k ≡ length list / 3 →
+      answerWidth * k ≤ length output → turn written rows output plan ≡ filled output₀ (made (run flags vertices coordinates) list rows₀ plan₀)
   making-ends k written rows output plan m h room =
       let all : Made = made step list rows₀ plan₀ in
       let over : made step (drop (3 * k) list) rows (drop (width * written) plan) ≡ makes [] 0 rows (drop (width * written) plan) =
@@ -166,16 +166,16 @@ module _ (step : Step) (list rows output plan : List ℕ) (k written : ℕ) (h :
       let s : leaves a rows₁ y ≡ nth step list k rows (drop p plan) = e ∙ ap (nth step list k rows) (rest-is plan p h) in
       (λ i. turn (written + c i) rows₁ (o i) (rest-back plan p y h i)) ∙ ap (afterTurn k written output plan) s
 
-module _ (vertices : List ℕ) (coordinates : List Float) (operation ld rd : ℕ) (rows plan : List ℕ) (w : WellFormed rows) (a : Answer) (rows₁ y : List ℕ)
-    (e : leaves a rows₁ y ≡ run vertices coordinates operation ld rd rows plan) where
-  said : a ≡ run vertices coordinates operation ld rd rows plan .answer
+module _ (flags vertices : List ℕ) (coordinates : List Float) (operation ld rd : ℕ) (rows plan : List ℕ) (w : WellFormed rows) (a : Answer) (rows₁ y : List ℕ)
+    (e : leaves a rows₁ y ≡ run flags vertices coordinates operation ld rd rows plan) where
+  said : a ≡ run flags vertices coordinates operation ld rd rows plan .answer
   said = ap (λ (s : Sewn). s .answer) e
 
   pub answer-fits : Fits a
-  answer-fits = subst Fits (sym said) (run-fits vertices coordinates rows plan w operation ld rd)
+  answer-fits = subst Fits (sym said) (run-fits flags vertices coordinates rows plan w operation ld rd)
 
   pub answer-room : width * countOf a ≤ length plan
-  answer-room = subst (λ (x : Answer). width * countOf x ≤ length plan) (sym said) (run-room vertices coordinates rows plan w operation ld rd)
+  answer-room = subst (λ (x : Answer). width * countOf x ≤ length plan) (sym said) (run-room flags vertices coordinates rows plan w operation ld rd)
 
 -- scratch stays clean as long as it and the number of darts stay what they were
 pub clean-same : (rows rows₀ marks marks₀ queue queue₀ : List ℕ) → length rows ≡ length rows₀ → marks ≡ marks₀ → queue ≡ queue₀ →

@@ -19,7 +19,7 @@ use Rattle.map_betas.specs.declared.error.Refusal.the-variants.{BadCommand}
 use Rattle.map_betas.specs.declared.loans.Loans.{Loans}
 use Rattle.map_betas.specs.Betas.{darts}
 use Rattle.map_betas.specs.Answers.{andThen, Outcome, outcome, behind}
-use Rattle.map_betas.specs.Maps.{sizeTest, mapTest, WellFormed}
+use Rattle.map_betas.specs.Maps.{sizeTest, mapTest, Map}
 use Rattle.map_betas.specs.Guards.{commandLoans, loanTest}
 use Rattle.cell_steps.specs.Calls.{wiped}
 use Rattle.sew_answers.specs.Words.{answerWidth}
@@ -34,8 +34,8 @@ abbrev pub loansFor : List ℕ → List ℕ → List ℕ → List ℕ → List F
 loansFor marks queue output vertices coordinates list =
     commandLoans (length marks) (length queue) (length output / answerWidth) (length list / 3) (length vertices) (length coordinates)
 
-unfoldable pub commandsLent : List ℕ → Loans → Answer
-commandsLent rows loans = andThen (sizeTest rows) (loanTest (darts rows) loans)
+unfoldable pub commandsLent : List ℕ → List ℕ → Loans → Answer
+commandsLent rows flags loans = andThen (sizeTest rows) (loanTest (darts rows) (length flags) loans)
 
 abbrev pub whole : List ℕ → Bool
 whole list = eqb (length list % 3) 0
@@ -45,22 +45,22 @@ abbrev pub listDone : ℕ → List ℕ → List ℕ → Turn → Outcome Command
 listDone n marks queue t = outcome (Done 0 (t .written)) (t .rows, wiped n marks, wiped n queue, t .output, t .plan)
 
 -- behind the tests of size and loans: a list of whole commands, then the map (scope: commands). 13 is none of the refusals that leave scratch as it was.
-unfoldable pub listTested : List ℕ → List ℕ → List ℕ → List ℕ → List ℕ → List Float → List ℕ → List ℕ → Outcome CommandLoans
-listTested rows marks queue output vertices coordinates plan list =
+unfoldable pub listTested : List ℕ → List ℕ → List ℕ → List ℕ → List ℕ → List ℕ → List Float → List ℕ → List ℕ → Outcome CommandLoans
+listTested rows marks queue output flags vertices coordinates plan list =
     cond (whole list)
-    (behind (mapTest rows) (rows, marks, queue, output, plan)
-    (listDone (darts rows) marks queue (filled output (made (called (lending marks queue vertices coordinates)) list rows plan))))
+    (behind (mapTest rows flags) (rows, marks, queue, output, plan)
+    (listDone (darts rows) marks queue (filled output (made (called (lending marks queue flags vertices coordinates)) list rows plan))))
     (outcome (Refused (BadCommand 0)) (rows, wiped (darts rows) marks, wiped (darts rows) queue, output, plan))
 
 -- refusals in the order 1, 2, 13, 3
-unfoldable pub commands : List ℕ → List ℕ → List ℕ → List ℕ → List ℕ → List Float → List ℕ → List ℕ → Outcome CommandLoans
-commands rows marks queue output vertices coordinates plan list =
-    behind (commandsLent rows (loansFor marks queue output vertices coordinates list)) (rows, marks, queue, output, plan)
-    (listTested rows marks queue output vertices coordinates plan list)
+unfoldable pub commands : List ℕ → List ℕ → List ℕ → List ℕ → List ℕ → List ℕ → List Float → List ℕ → List ℕ → Outcome CommandLoans
+commands rows marks queue output flags vertices coordinates plan list =
+    behind (commandsLent rows flags (loansFor marks queue output vertices coordinates list)) (rows, marks, queue, output, plan)
+    (listTested rows marks queue output flags vertices coordinates plan list)
 
 -- a map, loans that are long enough, room for every answer, and whole commands
-pub record Able (rows marks queue output vertices : List ℕ) (coordinates : List Float) (list : List ℕ) : Type 0 where
-  pub formed : WellFormed rows
-  pub lent : LongEnough (darts rows) (lending marks queue vertices coordinates)
+pub record Able (rows marks queue output flags vertices : List ℕ) (coordinates : List Float) (list : List ℕ) : Type 0 where
+  pub map : Map rows flags
+  pub lent : LongEnough (darts rows) (lending marks queue flags vertices coordinates)
   pub room : answerWidth * (length list / 3) ≤ length output
   pub whole : length list % 3 ≡ 0

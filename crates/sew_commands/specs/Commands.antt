@@ -40,17 +40,19 @@ operations =
 unfoldable pub commandOf : ℕ → Command
 commandOf operation = getD operations operation Unknown
 
--- marks and queue are lent to every sew, and no sew looks at what they hold; only the 2-sew looks at the vertices
+-- flags are lent to every call, marks and queue to every sew, and no sew looks at what these hold; only the 2-sew looks at the vertices
 pub record Lending : Type 0 where
   pub marks : List ℕ
   pub queue : List ℕ
+  pub flags : List ℕ
   pub vertices : List ℕ
   pub coordinates : List Float
 
-abbrev pub lending : List ℕ → List ℕ → List ℕ → List Float → Lending
-lending marks queue vertices coordinates = record { marks = marks; queue = queue; vertices = vertices; coordinates = coordinates }
+abbrev pub lending : List ℕ → List ℕ → List ℕ → List ℕ → List Float → Lending
+lending marks queue flags vertices coordinates =
+    record { marks = marks; queue = queue; flags = flags; vertices = vertices; coordinates = coordinates }
 
--- what n darts ask of them
+-- what n darts ask of them; that there is a flag for each is the map's own (`Map`)
 pub record LongEnough (n : ℕ) (lent : Lending) : Type 0 where
   pub marks : n ≤ length (lent .marks)
   pub queue : n ≤ length (lent .queue)
@@ -59,11 +61,11 @@ pub record LongEnough (n : ℕ) (lent : Lending) : Type 0 where
 
 -- the calls that a user has; an unsew is not given the second dart
 abbrev pub sewCallOf : Operation → Lending → List ℕ → List ℕ → ℕ → ℕ → Outcome SewLoans
-sewCallOf OneSew lent rows plan ld rd = oneSew rows (lent .marks) (lent .queue) plan ld rd
-sewCallOf OneUnsew lent rows plan ld rd = oneUnsew rows (lent .marks) (lent .queue) plan ld
-sewCallOf TwoSew lent rows plan ld rd = twoSew rows (lent .marks) (lent .queue) (lent .vertices) (lent .coordinates) plan ld rd
-sewCallOf TwoUnsew lent rows plan ld rd = twoUnsew rows (lent .marks) (lent .queue) plan ld
-sewCallOf ThreeUnsew lent rows plan ld rd = threeUnsew rows (lent .marks) (lent .queue) plan ld
+sewCallOf OneSew lent rows plan ld rd = oneSew rows (lent .marks) (lent .queue) (lent .flags) plan ld rd
+sewCallOf OneUnsew lent rows plan ld rd = oneUnsew rows (lent .marks) (lent .queue) (lent .flags) plan ld
+sewCallOf TwoSew lent rows plan ld rd = twoSew rows (lent .marks) (lent .queue) (lent .flags) (lent .vertices) (lent .coordinates) plan ld rd
+sewCallOf TwoUnsew lent rows plan ld rd = twoUnsew rows (lent .marks) (lent .queue) (lent .flags) plan ld
+sewCallOf ThreeUnsew lent rows plan ld rd = threeUnsew rows (lent .marks) (lent .queue) (lent .flags) plan ld
 
 -- what a link's call leaves, with the plan that it has not got
 abbrev pub onRows : Outcome (List ℕ) → List ℕ → Sewn
@@ -75,7 +77,7 @@ onPlan o = leaves (o .answer) (o .loans .0) (o .loans .3)
 
 -- a command is the call of its name, guard and all; a number that stands for none is refused before anything else
 abbrev pub callOf : Command → Lending → ℕ → ℕ → ℕ → List ℕ → List ℕ → Sewn
-callOf (Links l) lent operation ld rd rows plan = onRows (linkCall l rows ld rd) plan
+callOf (Links l) lent operation ld rd rows plan = onRows (linkCall l rows (lent .flags) ld rd) plan
 callOf (Sews o) lent operation ld rd rows plan = onPlan (sewCallOf o lent rows plan ld rd)
 callOf Unknown lent operation ld rd rows plan = leaves (Refused (BadCommand operation)) rows plan
 
@@ -94,16 +96,16 @@ sewSecond ThreeUnsew ld rd = ld
 abbrev pub afterDarts : Answer → List ℕ → List ℕ → Sewn → Sewn
 afterDarts t rows plan s = cond (isDone t) s (leaves t rows plan)
 
-unfoldable pub sewTested : Operation → List ℕ → List Float → ℕ → ℕ → List ℕ → List ℕ → Sewn
-sewTested o vertices coordinates ld rd rows plan =
-    afterDarts (dartTest (darts rows) 1 ld (sewSecond o ld rd)) rows plan (sewn rows plan (workOf o vertices coordinates rows ld rd))
+unfoldable pub sewTested : Operation → List ℕ → List ℕ → List Float → ℕ → ℕ → List ℕ → List ℕ → Sewn
+sewTested o flags vertices coordinates ld rd rows plan =
+    afterDarts (dartTest (darts rows) flags 1 ld (sewSecond o ld rd)) rows plan (sewn rows plan (workOf o vertices coordinates rows ld rd))
 
 -- A command as the code runs it, on a map and with loans that are long enough: its darts alone are tested. There it is the call
 -- (`call-on-map`, `proofs/CommandLaws.antt`).
-abbrev pub coreOf : Command → List ℕ → List Float → ℕ → ℕ → ℕ → List ℕ → List ℕ → Sewn
-coreOf (Links l) vertices coordinates operation ld rd rows plan = onRows (linkTested l rows ld rd) plan
-coreOf (Sews o) vertices coordinates operation ld rd rows plan = sewTested o vertices coordinates ld rd rows plan
-coreOf Unknown vertices coordinates operation ld rd rows plan = leaves (Refused (BadCommand operation)) rows plan
+abbrev pub coreOf : Command → List ℕ → List ℕ → List Float → ℕ → ℕ → ℕ → List ℕ → List ℕ → Sewn
+coreOf (Links l) flags vertices coordinates operation ld rd rows plan = onRows (linkTested l rows flags ld rd) plan
+coreOf (Sews o) flags vertices coordinates operation ld rd rows plan = sewTested o flags vertices coordinates ld rd rows plan
+coreOf Unknown flags vertices coordinates operation ld rd rows plan = leaves (Refused (BadCommand operation)) rows plan
 
-unfoldable pub run : List ℕ → List Float → ℕ → ℕ → ℕ → List ℕ → List ℕ → Sewn
-run vertices coordinates operation ld rd rows plan = coreOf (commandOf operation) vertices coordinates operation ld rd rows plan
+unfoldable pub run : List ℕ → List ℕ → List Float → ℕ → ℕ → ℕ → List ℕ → List ℕ → Sewn
+run flags vertices coordinates operation ld rd rows plan = coreOf (commandOf operation) flags vertices coordinates operation ld rd rows plan

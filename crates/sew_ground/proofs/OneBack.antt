@@ -2,12 +2,12 @@
 --   LinksWay, UnlinksWay         the ways through `oneLinks` and `oneUnlinks`
 --   links-kept, unlinks-kept     after a refusal the rows are as they were
 --   links-dart, unlinks-dart     the dart that is answered
---   links-formed, unlinks-formed the map stays well formed
+--   links-formed, unlinks-formed the rows stay well formed and as many, and no other dart that was free is linked
 --   taken-back, put-back         the code's way of undoing them gives back every row
 -- Assumes nothing.
 use Prim.Native.Nat.{ℕ}
 use native.Mathlib.Omega.{arith}
-use mathlib.Core.Path.{_≡_, refl, sym, ap, _∙_}
+use mathlib.Core.Path.{_≡_, refl, sym, ap, _∙_, subst}
 use mathlib.Core.Logic.{_≢_}
 use mathlib.Core.Bool.{Bool, true, false}
 use mathlib.Core.List.{List}
@@ -20,14 +20,15 @@ use Rattle.map_betas.specs.Betas.{beta, darts}
 use Rattle.map_betas.specs.Answers.{Out, out, isDone, pass}
 use Rattle.map_betas.specs.Cores.{linkCore, unlinkCore}
 use Rattle.map_betas.specs.Guards.{Dart}
-use Rattle.map_betas.specs.Maps.{WellFormed}
+use Rattle.map_betas.specs.Maps.{WellFormed, Free, Keeps}
 use Rattle.map_betas.proofs.AnswerLaws.{not-both, rows-same}
 use Rattle.map_betas.proofs.CoreLaws.{unlink-done}
 use Rattle.map_betas.proofs.Kept.{link-refused, unlink-refused, unlink-undoes, link-undoes, link-pair, unlink-pair}
 use Rattle.map_betas.proofs.Always.{link-formed, link-length, link-other, unlink-formed, unlink-length, unlink-other}
+use Rattle.map_betas.proofs.Spared.{link-keeps-all, unlink-keeps-all, keeps-same, keeps-then, keeps-linked}
 use Rattle.sew_ground.specs.Sewn.{dartOf}
 use Rattle.sew_ground.specs.One.{bothThree, oneLinks, secondCut, secondPut, agrees, oneUnlinks, takenBack, relinked}
-use Rattle.sew_ground.proofs.OneLaws.{both-left, both-right, both-same, cut-none, cut-some, put-no, put-some, cut-formed}
+use Rattle.sew_ground.proofs.OneLaws.{both-left, both-right, both-same, cut-none, cut-some, put-no, put-some, faces-linked, cut-formed}
 
 -- ---- links
 
@@ -98,14 +99,27 @@ module _ (rows : List ℕ) (ld rd : ℕ) (w : WellFormed rows) (dl : Dart (darts
         (λ z. absurd (omega arith))
         ∙ three₁ d
 
-  pub links-formed : WellFormed (oneLinks rows ld rd .rows) × (length (oneLinks rows ld rd .rows) ≡ length rows)
+  kept₁ : Keeps ld rd rows (first rows ld rd .rows)
+  kept₁ = link-keeps-all rows 1 ld w (omega arith) (omega arith) rd dl dr
+
+  -- the second link is of darts that face ld and rd: neither was free
+  kept₂ : bothThree rows ld rd ≡ true → Keeps ld rd rows (second rows ld rd .rows)
+  kept₂ b =
+      let rows₁ : List ℕ = first rows ld rd .rows in
+      let faced : (d : ℕ) → beta rows 3 d ≢ 0 → Free rows₁ (beta rows 3 d) → ⊥ =
+      λ d n f. faces-linked rows₁ ld rd formed₁ d (λ z. n (sym (three₁ d) ∙ z)) (subst (Free rows₁) (sym (three₁ d)) f) in
+      keeps-then ld rd rows _ _ kept₁
+      (keeps-linked (beta rows 3 rd) (beta rows 3 ld) ld rd (first rows ld rd .rows) _ (faced rd (both-right rows ld rd b)) (faced ld (both-left rows ld rd b))
+      (link-keeps-all (first rows ld rd .rows) 1 _ formed₁ (omega arith) (omega arith) _ (dart-r b) (dart-l b)))
+
+  pub links-formed : Keeps ld rd rows (oneLinks rows ld rd .rows)
   links-formed = go (links-way rows ld rd)
     where
-      go : LinksWay rows ld rd → WellFormed (oneLinks rows ld rd .rows) × (length (oneLinks rows ld rd .rows) ≡ length rows)
-      go (stopped a e) = rw (rows-same _ _ e) (formed₁, length₁)
-      go (single a b e) = rw (rows-same _ _ e) (formed₁, length₁)
-      go (turned a s e) = rw (rows-same _ _ e) (w, refl)
-      go (double a b s e) = rw (rows-same _ _ e) (formed₂ b, length₂ b)
+      go : LinksWay rows ld rd → Keeps ld rd rows (oneLinks rows ld rd .rows)
+      go (stopped a e) = rw (rows-same _ _ e) kept₁
+      go (single a b e) = rw (rows-same _ _ e) kept₁
+      go (turned a s e) = rw (rows-same _ _ e) (keeps-same ld rd rows w)
+      go (double a b s e) = rw (rows-same _ _ e) (kept₂ b)
 
   module _ (t : isDone (oneLinks rows ld rd .answer) ≡ true) where
     pub links-dart : 0 ≡ dartOf (oneLinks rows ld rd .answer)
@@ -181,15 +195,17 @@ module _ (rows : List ℕ) (ld : ℕ) (w : WellFormed rows) where
   cut-length₁ : length (parted rows ld .rows) ≡ length rows
   cut-length₁ = unlink-length rows 1 ld w (omega arith) (omega arith)
 
-  pub unlinks-formed : WellFormed (oneUnlinks rows ld .rows) × (length (oneUnlinks rows ld .rows) ≡ length rows)
+  kept-cut : Keeps ld ld rows (parted rows ld .rows)
+  kept-cut = unlink-keeps-all rows 1 ld w (omega arith) (omega arith)
+
+  pub unlinks-formed : Keeps ld ld rows (oneUnlinks rows ld .rows)
   unlinks-formed = go (unlinks-way rows ld)
     where
-      go : UnlinksWay rows ld → WellFormed (oneUnlinks rows ld .rows) × (length (oneUnlinks rows ld .rows) ≡ length rows)
-      go (refused a e) = rw (rows-same _ _ e) (cut₁, cut-length₁)
-      go (stray x f e) = rw (rows-same _ _ e) (w, refl)
+      go : UnlinksWay rows ld → Keeps ld ld rows (oneUnlinks rows ld .rows)
+      go (refused a e) = rw (rows-same _ _ e) kept-cut
+      go (stray x f e) = rw (rows-same _ _ e) (keeps-same ld ld rows w)
       go (through a b e) =
-          let v = cut-formed (parted rows ld .rows) ld (beta rows 1 ld) cut₁ in
-          rw (rows-same _ _ e) (v .0, v .1 ∙ cut-length₁)
+          rw (rows-same _ _ e) (keeps-then ld ld rows _ _ kept-cut (cut-formed (parted rows ld .rows) ld (beta rows 1 ld) cut₁))
 
   module _ (t : isDone (oneUnlinks rows ld .answer) ≡ true) where
     pub unlinks-dart : dartOf (oneUnlinks rows ld .answer) ≡ beta rows 1 ld

@@ -20,9 +20,10 @@ use Rattle.map_betas.specs.Betas.{beta, darts}
 use Rattle.map_betas.specs.Answers.{Out, out, isDone}
 use Rattle.map_betas.specs.Cores.{linkCore, unlinkCore}
 use Rattle.map_betas.specs.Guards.{Dart}
-use Rattle.map_betas.specs.Maps.{WellFormed}
+use Rattle.map_betas.specs.Maps.{WellFormed, Free, Keeps}
 use Rattle.map_betas.proofs.Kept.{link-refused, unlink-undoes, link-undoes, unlink-pair}
-use Rattle.map_betas.proofs.Always.{link-formed, link-length, unlink-formed, unlink-length}
+use Rattle.map_betas.proofs.Always.{link-formed, link-length, unlink-formed}
+use Rattle.map_betas.proofs.Spared.{next-linked, keeps-same, keeps-linked, unlink-keeps-all}
 use Rattle.sew_ground.specs.Sewn.{dartOf}
 use Rattle.sew_ground.specs.One.{bothThree, orBack, oneLinks, secondCut, secondPut, agrees, oneUnlinks}
 
@@ -124,16 +125,19 @@ module _ (rows : List ℕ) (ld rd : ℕ) where
   put-some r3 l3 u rows₁ e er el f = rows-of u rows₁ _ f ∙ simp (e, er, el)
 
   module _ (w : WellFormed rows) where
-    pub cut-formed : WellFormed (secondCut rows ld rd) × (length (secondCut rows ld rd) ≡ length rows)
+    -- what faces a dart is not free
+    pub faces-linked : (d : ℕ) → beta rows 3 d ≢ 0 → Free rows (beta rows 3 d) → ⊥
+    faces-linked d n f = n (next-linked rows 3 d w (omega arith) (λ z. n (ap (beta rows 3) z ∙ w .null 3 (omega arith))) f)
+
+    pub cut-formed : Keeps ld ld rows (secondCut rows ld rd)
     unfolding secondCut
     cut-formed = go (bothThree rows ld rd) refl
       where
-        go : (b : Bool) → bothThree rows ld rd ≡ b →
-            WellFormed (cond b (unlinkCore rows 1 (beta rows 3 rd) .rows) rows)
-            × (length (cond b (unlinkCore rows 1 (beta rows 3 rd) .rows) rows) ≡ length rows)
+        go : (b : Bool) → bothThree rows ld rd ≡ b → Keeps ld ld rows (cond b (unlinkCore rows 1 (beta rows 3 rd) .rows) rows)
         go true e =
-            (unlink-formed rows 1 (beta rows 3 rd) w (omega arith) (omega arith), unlink-length rows 1 (beta rows 3 rd) w (omega arith) (omega arith))
-        go false e = (w, refl)
+            let n = faces-linked rd (both-right rows ld rd e) in
+            keeps-linked (beta rows 3 rd) (beta rows 3 rd) ld ld rows _ n n (unlink-keeps-all rows 1 (beta rows 3 rd) w (omega arith) (omega arith))
+        go false e = keeps-same ld ld rows w
 
     pub put-formed : WellFormed (secondPut rows ld rd) × (length (secondPut rows ld rd) ≡ length rows)
     unfolding secondPut

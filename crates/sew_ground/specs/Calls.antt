@@ -1,4 +1,4 @@
--- The calls: what a sew or an unsew answers and leaves for any rows, any loans and any darts.
+-- The calls: what a sew or an unsew answers and leaves for any rows, flags, loans and darts.
 --   SewLoans         what is left of rows, marks, queue and plan
 --   sewDone          a call that is not refused by its tests: scratch is 0 on its first n places
 --   sewCall          a call behind its tests, whatever its work
@@ -26,20 +26,20 @@ sewDone n marks queue s = outcome (s .answer) (s .rows, wiped n marks, wiped n q
 abbrev pub sewCall : Answer → List ℕ → List ℕ → List ℕ → List ℕ → Work → Outcome SewLoans
 sewCall g rows marks queue plan w = behind g (rows, marks, queue, plan) (sewDone (darts rows) marks queue (sewn rows plan w))
 
-abbrev pub sewGuard : List ℕ → List ℕ → List ℕ → ℕ → ℕ → Answer
-sewGuard rows marks queue ld rd = guardOf rows (scratchOf (length marks) (length queue)) 1 ld rd
+abbrev pub sewGuard : List ℕ → List ℕ → List ℕ → List ℕ → ℕ → ℕ → Answer
+sewGuard rows marks queue flags ld rd = guardOf rows flags (scratchOf (length marks) (length queue)) 1 ld rd
 
-unfoldable pub oneSew : List ℕ → List ℕ → List ℕ → List ℕ → ℕ → ℕ → Outcome SewLoans
-oneSew rows marks queue plan ld rd = sewCall (sewGuard rows marks queue ld rd) rows marks queue plan (oneSewOn rows ld rd)
+unfoldable pub oneSew : List ℕ → List ℕ → List ℕ → List ℕ → List ℕ → ℕ → ℕ → Outcome SewLoans
+oneSew rows marks queue flags plan ld rd = sewCall (sewGuard rows marks queue flags ld rd) rows marks queue plan (oneSewOn rows ld rd)
 
-unfoldable pub oneUnsew : List ℕ → List ℕ → List ℕ → List ℕ → ℕ → Outcome SewLoans
-oneUnsew rows marks queue plan ld = sewCall (sewGuard rows marks queue ld ld) rows marks queue plan (oneUnsewOn rows ld)
+unfoldable pub oneUnsew : List ℕ → List ℕ → List ℕ → List ℕ → List ℕ → ℕ → Outcome SewLoans
+oneUnsew rows marks queue flags plan ld = sewCall (sewGuard rows marks queue flags ld ld) rows marks queue plan (oneUnsewOn rows ld)
 
 -- the 2-sew has the vertices too
-unfoldable pub twoSew : List ℕ → List ℕ → List ℕ → List ℕ → List Float → List ℕ → ℕ → ℕ → Outcome SewLoans
-twoSew rows marks queue vertices coordinates plan ld rd =
-    sewCall (guardOf rows (vertexLoans (length marks) (length queue) (length vertices) (length coordinates)) 1 ld rd) rows marks queue plan
+unfoldable pub twoSew : List ℕ → List ℕ → List ℕ → List ℕ → List ℕ → List Float → List ℕ → ℕ → ℕ → Outcome SewLoans
+twoSew rows marks queue flags vertices coordinates plan ld rd =
+    sewCall (guardOf rows flags (vertexLoans (length marks) (length queue) (length vertices) (length coordinates)) 1 ld rd) rows marks queue plan
     (twoSewOn vertices coordinates rows ld rd)
 
-unfoldable pub twoUnsew : List ℕ → List ℕ → List ℕ → List ℕ → ℕ → Outcome SewLoans
-twoUnsew rows marks queue plan ld = sewCall (sewGuard rows marks queue ld ld) rows marks queue plan (twoUnsewOn rows ld)
+unfoldable pub twoUnsew : List ℕ → List ℕ → List ℕ → List ℕ → List ℕ → ℕ → Outcome SewLoans
+twoUnsew rows marks queue flags plan ld = sewCall (sewGuard rows marks queue flags ld ld) rows marks queue plan (twoUnsewOn rows ld)

@@ -20,6 +20,7 @@ pub fn make_wiped(
     marks: &mut [u8],
     queue: &mut [u32],
     output: &mut [u32],
+    flags: &[u8],
     vertices: &[u8],
     coordinates: &[f64],
     plan: &mut [u32],
@@ -28,10 +29,10 @@ pub fn make_wiped(
     requires { ⌜ WellFormed (now rows)
         × (darts (now rows) ≤ length (now marks)) × (darts (now rows) ≤ length (now queue))
         × (darts (now rows) ≤ length (now vertices)) × (3 * darts (now rows) ≤ length (now coordinates))
-        × (answerWidth * (length (now list) / 3) ≤ length (now output)) ⌝ }
+        × (answerWidth * (length (now list) / 3) ≤ length (now output)) × (darts (now rows) ≤ length (now flags)) ⌝ }
     ensures { λ a. ⌜ outcome a (now (rows .exit), now (marks .exit), now (queue .exit), now (output .exit), now (plan .exit))
         ≡ listDone (darts (now (rows .entry))) (now (marks .entry)) (now (queue .entry)) (filled (now (output .entry))
-        (made (run (now (vertices .entry)) (now (coordinates .entry))) (now (list .entry)) (now (rows .entry)) (now (plan .entry)))) ⌝ }
+        (made (run (now (flags .entry)) (now (vertices .entry)) (now (coordinates .entry))) (now (list .entry)) (now (rows .entry)) (now (plan .entry)))) ⌝ }
 {
     let n = rows.len() / 4;
     wipe_marks(marks, n);
@@ -41,6 +42,7 @@ pub fn make_wiped(
         &mut marks[..n],
         &mut queue[..n],
         output,
+        flags,
         vertices,
         coordinates,
         plan,

@@ -20,6 +20,7 @@ fn make_one(
     marks: &mut [u8],
     queue: &mut [u32],
     output: &mut [u32],
+    flags: &[u8],
     vertices: &[u8],
     coordinates: &[f64],
     plan: &mut [u32],
@@ -29,9 +30,9 @@ fn make_one(
 ) -> usize
     requires { ⌜ WellFormed (now rows) × Clean (darts (now rows)) (now marks) (now queue) × (darts (now rows) ≤ length (now vertices))
         × (3 * darts (now rows) ≤ length (now coordinates)) × (3 * k + 3 ≤ length (now list)) × (answerWidth * k + answerWidth ≤ length (now output))
-        × (width * written ≤ length (now plan)) ⌝ }
+        × (width * written ≤ length (now plan)) × (darts (now rows) ≤ length (now flags)) ⌝ }
     ensures { λ r. ⌜ turn r (now (rows .exit)) (now (output .exit)) (now (plan .exit))
-        ≡ turnOf (run (now (vertices .entry)) (now (coordinates .entry))) (now (list .entry)) k written (now (rows .entry)) (now (output .entry))
+        ≡ turnOf (run (now (flags .entry)) (now (vertices .entry)) (now (coordinates .entry))) (now (list .entry)) k written (now (rows .entry)) (now (output .entry))
         (now (plan .entry)) ⌝ }
     ensures { λ _. ⌜ (now (marks .exit) ≡ now (marks .entry)) × (now (queue .exit) ≡ now (queue .entry)) ⌝ }
 {
@@ -45,6 +46,7 @@ fn make_one(
         rows,
         marks,
         queue,
+        flags,
         vertices,
         coordinates,
         &mut plan[from..],
@@ -61,15 +63,17 @@ pub fn make_all(
     marks: &mut [u8],
     queue: &mut [u32],
     output: &mut [u32],
+    flags: &[u8],
     vertices: &[u8],
     coordinates: &[f64],
     plan: &mut [u32],
     list: &[u32],
 ) -> usize
     requires { ⌜ WellFormed (now rows) × Clean (darts (now rows)) (now marks) (now queue) × (darts (now rows) ≤ length (now vertices))
-        × (3 * darts (now rows) ≤ length (now coordinates)) × (answerWidth * (length (now list) / 3) ≤ length (now output)) ⌝ }
+        × (3 * darts (now rows) ≤ length (now coordinates)) × (answerWidth * (length (now list) / 3) ≤ length (now output))
+        × (darts (now rows) ≤ length (now flags)) ⌝ }
     ensures { λ r. ⌜ turn r (now (rows .exit)) (now (output .exit)) (now (plan .exit))
-        ≡ filled (now (output .entry)) (made (run (now (vertices .entry)) (now (coordinates .entry))) (now (list .entry)) (now (rows .entry))
+        ≡ filled (now (output .entry)) (made (run (now (flags .entry)) (now (vertices .entry)) (now (coordinates .entry))) (now (list .entry)) (now (rows .entry))
         (now (plan .entry))) ⌝ }
     ensures { λ _. ⌜ (now (marks .exit) ≡ now (marks .entry)) × (now (queue .exit) ≡ now (queue .entry)) ⌝ }
 {
@@ -82,6 +86,7 @@ pub fn make_all(
             marks,
             queue,
             output,
+            flags,
             vertices,
             coordinates,
             plan,

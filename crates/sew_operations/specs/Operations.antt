@@ -2,7 +2,7 @@
 --   workOf      what an operation does while the plan has room
 --   loansOf     the loans that it has, by their lengths
 --   Slots       the slots that it looks at are there
---   operation   what it answers and leaves for any rows, any loans and any darts
+--   operation   what it answers and leaves for any rows, flags, loans and darts
 --   bare        the same of an operation that has no vertices
 use Prim.Native.Nat.{ℕ, _*_, _≤_}
 use mathlib.Core.List.{List, [], _∷_}
@@ -42,11 +42,11 @@ Slots TwoSew n vertices coordinates = (n ≤ vertices) × (3 * n ≤ coordinates
 Slots TwoUnsew n vertices coordinates = Unit {0}
 Slots ThreeUnsew n vertices coordinates = Unit {0}
 
-unfoldable pub operation : Operation → List ℕ → List ℕ → List ℕ → List ℕ → List Float → List ℕ → ℕ → ℕ → Outcome SewLoans
-operation op rows marks queue vertices coordinates plan ld rd =
-    sewCall (guardOf rows (loansOf op (length marks) (length queue) (length vertices) (length coordinates)) 1 ld rd) rows marks queue plan
+unfoldable pub operation : Operation → List ℕ → List ℕ → List ℕ → List ℕ → List ℕ → List Float → List ℕ → ℕ → ℕ → Outcome SewLoans
+operation op rows marks queue flags vertices coordinates plan ld rd =
+    sewCall (guardOf rows flags (loansOf op (length marks) (length queue) (length vertices) (length coordinates)) 1 ld rd) rows marks queue plan
     (workOf op vertices coordinates rows ld rd)
 
 -- an operation that has no vertices, lent one slot that it does not look at
-unfoldable pub bare : Operation → List ℕ → List ℕ → List ℕ → List ℕ → ℕ → ℕ → Outcome SewLoans
-bare op rows marks queue plan ld rd = operation op rows marks queue (0 ∷ []) (plusZero ∷ []) plan ld rd
+unfoldable pub bare : Operation → List ℕ → List ℕ → List ℕ → List ℕ → List ℕ → ℕ → ℕ → Outcome SewLoans
+bare op rows marks queue flags plan ld rd = operation op rows marks queue flags (0 ∷ []) (plusZero ∷ []) plan ld rd

@@ -1,8 +1,8 @@
 -- The worked examples of the 3-unsew: each call of the table leaves what the table says (`agree`), computed from the definitions.
 -- Assumes nothing.
 use mathlib.Core.Path.{_≡_, refl}
-use Rattle.map_betas.specs.Maps.{badSize, breaks, breachAt, firstBreach, mapTest}
-use Rattle.map_betas.specs.Guards.{loanTest, noDart, guardOf}
+use Rattle.map_betas.specs.Maps.{badSize, breaks, breachAt, freeAt, unused, bound, firstBreach, mapTest}
+use Rattle.map_betas.specs.Guards.{loanTest, noDart, mapGuard, guardOf}
 use Rattle.map_betas.specs.Cores.{unlinkCore}
 use Rattle.link_walk.specs.Walk.{stepOf, walk}
 use Rattle.link_walk.specs.Three.{threeUnlinkOn}
@@ -19,7 +19,7 @@ use Rattle.sew_pairs.specs.Calls.{threeUnsew}
 use Rattle.sew_pairs.specs.Examples.{lines}
 
 pub agree : calls lines ≡ sayings lines
-unfolding lines calls sayings threeUnsew guardOf loanTest noDart mapTest firstBreach breachAt breaks badSize threeUnlinkOn unlinkCore stepOf walk image mem add
-    visit search orbit leastFrom least ident splitOf planOf putPlan entriesIf settled sewn threeFar pairEntries lefts rights entriesOf legOver pairsFrom endFrom
-    firstPairs firstEnd backPairs pairsOf splitsOf threeEntries threeUnsewOn
+unfolding lines calls sayings threeUnsew guardOf mapGuard loanTest noDart mapTest firstBreach bound unused freeAt breachAt breaks badSize threeUnlinkOn
+    unlinkCore stepOf walk image mem add visit search orbit leastFrom least ident splitOf planOf putPlan entriesIf settled sewn threeFar pairEntries lefts
+    rights entriesOf legOver pairsFrom endFrom firstPairs firstEnd backPairs pairsOf splitsOf threeEntries threeUnsewOn
 agree = refl

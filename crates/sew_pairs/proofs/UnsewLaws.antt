@@ -4,9 +4,8 @@
 --   three-ready     the rows that the 3-unlink has left, and the darts of the 3-link that undoes it
 --   three-tight     the plan has no room, and the rows are linked again
 --   three-done      done
---   sewn-kept       a work that leaves a map of as many darts does so with any room, done or refused
---   three-kept      a 3-unsew leaves a map of as many darts, done or refused
---   call-kept       and so does the call, whatever its loans and its dart
+--   three-kept      a 3-unsew leaves rows that are well formed and as many, done or refused, and links no dart that was free
+--   call-three-unsew-kept      so the call leaves a map a map, whatever its loans and its dart
 --   call-three-unsew-refused   a refused call leaves rows and plan as they were
 -- Assumes nothing.
 use Prim.Native.Nat.{ℕ, _/_, _<_}
@@ -18,30 +17,18 @@ use mathlib.Core.List.{List}
 use lib.ListN.{length}
 use Rattle.map_betas.specs.declared.error.Answer.{Answer}
 use Rattle.map_betas.specs.Betas.{beta, darts}
-use Rattle.map_betas.specs.Answers.{Out, out, isDone, Outcome, outcome, given}
+use Rattle.map_betas.specs.Answers.{Out, out, isDone}
 use Rattle.map_betas.specs.Guards.{Dart, scratchOf}
-use Rattle.map_betas.specs.Maps.{WellFormed}
-use Rattle.map_betas.proofs.GuardLaws.{ready}
+use Rattle.map_betas.specs.Maps.{WellFormed, Map, Keeps, Stays}
 use Rattle.link_walk.specs.Three.{threeLinkOn, threeUnlinkOn}
-use Rattle.link_walk.specs.Calls.{Real, threeUnlink}
-use Rattle.link_walk.proofs.CallLaws.{inside}
-use Rattle.link_walk.proofs.Kept.{Keeps, unlink-kept, three-unlink-unmoved}
-use Rattle.sew_ground.specs.Sewn.{Work, leaves, dartOf, Settled, settles, settled, afterPlan, sewn}
+use Rattle.link_walk.proofs.Kept.{unlink-kept, three-on-unmoved}
+use Rattle.sew_ground.specs.Sewn.{leaves, dartOf, settles, settled, sewn}
 use Rattle.sew_ground.proofs.SewnLaws.{ends-refused, ends-tight, ends-done}
-use Rattle.sew_ground.specs.Calls.{sewDone, sewGuard}
-use Rattle.sew_ground.proofs.Demand.{sew-refused}
+use Rattle.sew_ground.specs.Calls.{sewGuard}
+use Rattle.sew_ground.proofs.Demand.{sew-refused, sew-kept}
 use Rattle.sew_pairs.specs.Three.{threeEntries, threeUnsewOn}
 use Rattle.sew_pairs.specs.Calls.{threeUnsew}
 use Rattle.sew_pairs.proofs.Relink.{had-image, answers, relinks}
-
--- a 3-unlink that refuses leaves the rows
-unmoved : (rows : List ℕ) (ld : ℕ) → WellFormed rows → Dart (darts rows) 1 ld → isDone (threeUnlinkOn rows ld .answer) ≡ false →
-    threeUnlinkOn rows ld .rows ≡ rows
-unfolding threeUnlink
-unmoved rows ld w d t =
-    let h : Real rows ld ld = (w, d .allowed, d .below, d .allowed, d .below) in
-    let e : threeUnlink rows ld ≡ given (threeUnlinkOn rows ld) = inside rows ld ld (given (threeUnlinkOn rows ld)) h in
-    ap (λ (o : Outcome (List ℕ)). o .loans) (sym e) ∙ three-unlink-unmoved rows ld (ap (λ (o : Outcome (List ℕ)). isDone (o .answer)) e ∙ t)
 
 module _ (rows : List ℕ) (ld : ℕ) (a : Answer) (rows₁ : List ℕ) (e : out a rows₁ ≡ threeUnlinkOn rows ld) (w : WellFormed rows)
     (d : Dart (darts rows) 1 ld) where
@@ -59,7 +46,7 @@ module _ (rows : List ℕ) (ld : ℕ) (a : Answer) (rows₁ : List ℕ) (e : out
 
   pub three-refused : (plan : List ℕ) → isDone a ≡ false → leaves a rows₁ plan ≡ sewn rows plan (threeUnsewOn rows ld)
   unfolding threeUnsewOn
-  three-refused plan t = ends-refused rows plan _ a rows₁ is-answer (is-rows ∙ unmoved rows ld w d (said false t)) t
+  three-refused plan t = ends-refused rows plan _ a rows₁ is-answer (is-rows ∙ three-on-unmoved rows ld (said false t)) t
 
   module _ (t : isDone a ≡ true) (rd : ℕ) (er : rd ≡ dartOf a) where
     pub three-dart : rd ≡ beta rows 3 ld
@@ -96,39 +83,17 @@ module _ (rows : List ℕ) (ld : ℕ) (a : Answer) (rows₁ : List ℕ) (e : out
       three-done g = ends-done rows plan _ (said true t) rd (threeEntries rows₁ ld rd) dart entries b plan₁ s rows₁ is-rows g
 
 -- what a 3-unsew leaves
-module _ (rows plan : List ℕ) (w : WellFormed rows) where
-  either : (b : Bool) (rows₁ : List ℕ) → Keeps rows rows₁ → Keeps rows (cond b rows₁ rows)
-  either true rows₁ k = k
-  either false rows₁ k = (w, refl)
+pub three-kept : (rows : List ℕ) (ld : ℕ) → WellFormed rows → Dart (darts rows) 1 ld → Keeps ld ld rows (threeUnsewOn rows ld .rows)
+unfolding threeUnsewOn
+three-kept rows ld w d = let h = d .allowed in unlink-kept rows ld w (d .below) (omega arith)
 
-  pub sewn-kept : (x : Work) → Keeps rows (x .rows) → Keeps rows (sewn rows plan x .rows)
-  unfolding sewn
-  sewn-kept x k = go (isDone (x .answer))
-    where
-      s : Settled
-      s = settled plan (dartOf (x .answer)) (x .entries)
+module _ (rows marks queue flags plan : List ℕ) (ld : ℕ) where
+  pub call-three-unsew-kept : Map rows flags → Stays flags rows (threeUnsew rows marks queue flags plan ld .loans .0)
+  unfolding threeUnsew
+  call-three-unsew-kept m =
+      sew-kept rows flags marks queue plan (scratchOf (length marks) (length queue)) ld ld (threeUnsewOn rows ld) m (λ d e. three-kept rows ld (m .formed) d)
 
-      go : (b : Bool) → Keeps rows (cond b (afterPlan rows (x .rows) s) (leaves (x .answer) rows plan) .rows)
-      go true = either (isDone (s .answer)) (x .rows) k
-      go false = (w, refl)
-
-  pub three-kept : (ld : ℕ) → Dart (darts rows) 1 ld → Keeps rows (sewn rows plan (threeUnsewOn rows ld) .rows)
-  unfolding threeUnsewOn
-  three-kept ld d = let h = d .allowed in sewn-kept (threeUnsewOn rows ld) (unlink-kept rows ld w (d .below) (omega arith))
-
-pub call-kept : (rows marks queue plan : List ℕ) (ld : ℕ) → WellFormed rows → Keeps rows (threeUnsew rows marks queue plan ld .loans .0)
-unfolding threeUnsew
-call-kept rows marks queue plan ld w = go (isDone (sewGuard rows marks queue ld ld)) refl
-  where
-    go : (b : Bool) → isDone (sewGuard rows marks queue ld ld) ≡ b →
-        Keeps rows
-        (cond b (sewDone (darts rows) marks queue (sewn rows plan (threeUnsewOn rows ld))) (outcome (sewGuard rows marks queue ld ld)
-        (rows, marks, queue, plan))
-        .loans .0)
-    go true e = three-kept rows plan w ld (ready rows (scratchOf (length marks) (length queue)) 1 ld ld e .left)
-    go false e = (w, refl)
-
-pub call-three-unsew-refused : (rows marks queue plan : List ℕ) (ld : ℕ) → isDone (threeUnsew rows marks queue plan ld .answer) ≡ false →
-    (threeUnsew rows marks queue plan ld .loans .0 ≡ rows) × (threeUnsew rows marks queue plan ld .loans .3 ≡ plan)
-unfolding threeUnsew
-call-three-unsew-refused rows marks queue plan ld = sew-refused (sewGuard rows marks queue ld ld) rows marks queue plan (threeUnsewOn rows ld)
+  pub call-three-unsew-refused : isDone (threeUnsew rows marks queue flags plan ld .answer) ≡ false →
+      (threeUnsew rows marks queue flags plan ld .loans .0 ≡ rows) × (threeUnsew rows marks queue flags plan ld .loans .3 ≡ plan)
+  unfolding threeUnsew
+  call-three-unsew-refused = sew-refused (sewGuard rows marks queue flags ld ld) rows marks queue plan (threeUnsewOn rows ld)

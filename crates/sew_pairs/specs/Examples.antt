@@ -8,7 +8,7 @@ use mathlib.Core.List.{List, [], _∷_, _++_}
 use Rattle.map_betas.specs.declared.error.Answer.{Answer}
 use Rattle.map_betas.specs.declared.error.Answer.the-variants.{Done, Refused}
 use Rattle.map_betas.specs.declared.error.Refusal.the-variants.{AsymmetricalFaces, PlanRoom}
-use Rattle.link_glue.specs.Examples.{Line, line, row, free, loops, loops-linked, opens, opens-linked, pair-linked}
+use Rattle.link_glue.specs.Examples.{Line, line, row, free, loops, loops-linked, opens, opens-linked, pair-linked, inUse}
 use Rattle.map_betas.specs.Answers.{Outcome, outcome}
 use Rattle.sew_ground.specs.Calls.{SewLoans}
 use Rattle.sew_pairs.specs.Calls.{threeUnsew}
@@ -37,24 +37,28 @@ sevens = 7 ∷ 7 ∷ 7 ∷ 7 ∷ 7 ∷ 7 ∷ 7 ∷ 7 ∷ 7 ∷ 7 ∷ 7 ∷ 7 ∷
 abbrev leaving : Answer → List ℕ → List ℕ → List ℕ → List ℕ → Outcome SewLoans
 leaving a rows marks queue plan = outcome a (rows, marks, queue, plan)
 
+-- no dart is unused
+abbrev unsew : List ℕ → List ℕ → List ℕ → List ℕ → ℕ → Outcome SewLoans
+unsew rows marks queue plan ld = threeUnsew rows marks queue (inUse rows) plan ld
+
 unfoldable pub lines : List (Line (Outcome SewLoans))
 lines =
     -- 13:1,2,1; 12:1,2,1; 11:0,2,0; 11:1,0,0
-    line (threeUnsew two-linked zeros3 zeros3 (sevens ++ row 7 7 7 7) 1)
+    line (unsew two-linked zeros3 zeros3 (sevens ++ row 7 7 7 7) 1)
     (leaving (Done 2 4) (free ++ free ++ free) zeros3 zeros3 (row 13 1 2 1 ++ row 12 1 2 1 ++ row 11 0 2 0 ++ row 11 1 0 0))
     -- room for three of four entries: 11, and the darts stay linked
-    ∷ line (threeUnsew two-linked zeros3 zeros3 sevens 1) (leaving (Refused (PlanRoom 4)) two-linked zeros3 zeros3 sevens)
+    ∷ line (unsew two-linked zeros3 zeros3 sevens 1) (leaving (Refused (PlanRoom 4)) two-linked zeros3 zeros3 sevens)
     -- the least over the walked darts of each side: 13:2,3,2
-    ∷ line (threeUnsew part-linked zeros4 zeros4 (sevens ++ row 7 7 7 7) 2)
+    ∷ line (unsew part-linked zeros4 zeros4 (sevens ++ row 7 7 7 7) 2)
     (leaving (Done 3 4) (free ++ row 3 0 0 0 ++ free ++ row 0 1 0 0) zeros4 zeros4 (row 13 2 3 2 ++ row 12 2 3 2 ++ row 11 0 3 0 ++ row 11 2 1 1))
     -- an open face, from its last dart: the second leg's pair comes last, and marks and queue are longer than n
-    ∷ line (threeUnsew opens-linked (1 ∷ zeros6) (5 ∷ zeros4 ++ sevens) (sevens ++ sevens) 2)
+    ∷ line (unsew opens-linked (1 ∷ zeros6) (5 ∷ zeros4 ++ sevens) (sevens ++ sevens) 2)
     (leaving (Done 3 6) opens (0 ∷ zeros6) (zeros6 ++ (7 ∷ 7 ∷ 7 ∷ 7 ∷ 7 ∷ 7 ∷ 7 ∷ 7 ∷ 7 ∷ 7 ∷ 7 ∷ []))
     (row 13 1 3 1 ++ row 12 2 3 2 ++ row 11 0 3 0 ++ row 12 1 4 1 ++ row 11 2 4 2 ++ row 11 1 5 1))
     -- a closed face against a longer one: the second leg is not walked
-    ∷ line (threeUnsew loops-linked (zeros4 ++ zeros4) (zeros4 ++ zeros4) (sevens ++ sevens ++ row 7 7 7 7 ++ row 8 8 8 8) 1)
+    ∷ line (unsew loops-linked (zeros4 ++ zeros4) (zeros4 ++ zeros4) (sevens ++ sevens ++ row 7 7 7 7 ++ row 8 8 8 8) 1)
     (leaving (Done 4 7) loops (zeros4 ++ zeros4) (zeros4 ++ zeros4)
     (row 13 1 4 1 ++ row 12 1 4 1 ++ row 11 2 4 2 ++ row 12 2 7 2 ++ row 11 3 7 3 ++ row 12 3 6 3 ++ row 11 1 6 1 ++ row 8 8 8 8))
     -- walks read the rows as written so far
-    ∷ line (threeUnsew pair-linked zeros3 zeros3 sevens 1) (leaving (Refused (AsymmetricalFaces 1 2)) pair-linked zeros3 zeros3 sevens)
+    ∷ line (unsew pair-linked zeros3 zeros3 sevens 1) (leaving (Refused (AsymmetricalFaces 1 2)) pair-linked zeros3 zeros3 sevens)
     ∷ []

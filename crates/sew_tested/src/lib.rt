@@ -1,2 +1,2 @@
-// An operation for any rows, loans and darts.
+// An operation for any rows, flags, loans and darts.
 pub mod tested;

@@ -53,12 +53,13 @@ fn run_wiped(
     )
 }
 
-// An operation for any rows, loans and darts.
+// An operation for any rows, flags, loans and darts.
 pub fn operate(
     operation: Operation,
     rows: &mut [u32],
     marks: &mut [u8],
     queue: &mut [u32],
+    flags: &[u8],
     vertices: &[u8],
     coordinates: &[f64],
     plan: &mut [u32],
@@ -66,8 +67,8 @@ pub fn operate(
     rd: u32,
 ) -> Answer
     ensures { λ a. ⌜ outcome a (now (rows .exit), now (marks .exit), now (queue .exit), now (plan .exit))
-        ≡ operationOf operation (now (rows .entry)) (now (marks .entry)) (now (queue .entry)) (now (vertices .entry)) (now (coordinates .entry))
-        (now (plan .entry)) ld rd ⌝ }
+        ≡ operationOf operation (now (rows .entry)) (now (marks .entry)) (now (queue .entry)) (now (flags .entry)) (now (vertices .entry))
+        (now (coordinates .entry)) (now (plan .entry)) ld rd ⌝ }
 {
     let loans = loans_of(
         operation,
@@ -76,7 +77,7 @@ pub fn operate(
         vertices.len(),
         coordinates.len(),
     );
-    let g = guard(rows, loans, 1, ld, rd);
+    let g = guard(rows, flags, loans, 1, ld, rd);
     if !is_done(g) {
         return g;
     }
@@ -99,12 +100,13 @@ pub fn operate_bare(
     rows: &mut [u32],
     marks: &mut [u8],
     queue: &mut [u32],
+    flags: &[u8],
     plan: &mut [u32],
     ld: u32,
     rd: u32,
 ) -> Answer
     ensures { λ a. ⌜ outcome a (now (rows .exit), now (marks .exit), now (queue .exit), now (plan .exit))
-        ≡ bare operation (now (rows .entry)) (now (marks .entry)) (now (queue .entry)) (now (plan .entry)) ld rd ⌝ }
+        ≡ bare operation (now (rows .entry)) (now (marks .entry)) (now (queue .entry)) (now (flags .entry)) (now (plan .entry)) ld rd ⌝ }
 {
     let vertices = [0u8; 1];
     let coordinates = [0.0; 1];
@@ -113,6 +115,7 @@ pub fn operate_bare(
         rows,
         marks,
         queue,
+        flags,
         &vertices,
         &coordinates,
         plan,

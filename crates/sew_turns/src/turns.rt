@@ -24,6 +24,7 @@ fn sew(
     rows: &mut [u32],
     marks: &mut [u8],
     queue: &mut [u32],
+    flags: &[u8],
     vertices: &[u8],
     coordinates: &[f64],
     plan: &mut [u32],
@@ -31,14 +32,14 @@ fn sew(
     rd: u32,
 ) -> Answer
     requires { ⌜ WellFormed (now rows) × Clean (darts (now rows)) (now marks) (now queue) × (darts (now rows) ≤ length (now vertices))
-        × (3 * darts (now rows) ≤ length (now coordinates)) ⌝ }
+        × (3 * darts (now rows) ≤ length (now coordinates)) × (darts (now rows) ≤ length (now flags)) ⌝ }
     ensures { λ a. ⌜ leaves a (now (rows .exit)) (now (plan .exit))
-        ≡ sewTested operation (now (vertices .entry)) (now (coordinates .entry)) ld rd (now (rows .entry)) (now (plan .entry)) ⌝ }
+        ≡ sewTested operation (now (flags .entry)) (now (vertices .entry)) (now (coordinates .entry)) ld rd (now (rows .entry)) (now (plan .entry)) ⌝ }
     ensures { λ a. ⌜ (now (marks .exit) ≡ now (marks .entry)) × (now (queue .exit) ≡ now (queue .entry)) ⌝ }
 {
     let second = sew_second(operation, ld, rd);
     let n = rows.len() / 4;
-    let t = dart_test(n, 1, ld, second);
+    let t = dart_test(flags, n, 1, ld, second);
     if !is_done(t) {
         return t;
     }
@@ -62,6 +63,7 @@ pub fn run_command(
     rows: &mut [u32],
     marks: &mut [u8],
     queue: &mut [u32],
+    flags: &[u8],
     vertices: &[u8],
     coordinates: &[f64],
     plan: &mut [u32],
@@ -69,15 +71,26 @@ pub fn run_command(
     rd: u32,
 ) -> Answer
     requires { ⌜ WellFormed (now rows) × Clean (darts (now rows)) (now marks) (now queue) × (darts (now rows) ≤ length (now vertices))
-        × (3 * darts (now rows) ≤ length (now coordinates)) ⌝ }
+        × (3 * darts (now rows) ≤ length (now coordinates)) × (darts (now rows) ≤ length (now flags)) ⌝ }
     ensures { λ a. ⌜ leaves a (now (rows .exit)) (now (plan .exit))
-        ≡ runOf (now (vertices .entry)) (now (coordinates .entry)) operation ld rd (now (rows .entry)) (now (plan .entry)) ⌝ }
+        ≡ runOf (now (flags .entry)) (now (vertices .entry)) (now (coordinates .entry)) operation ld rd (now (rows .entry)) (now (plan .entry)) ⌝ }
     ensures { λ a. ⌜ (now (marks .exit) ≡ now (marks .entry)) × (now (queue .exit) ≡ now (queue .entry)) ⌝ }
 {
     let command = command_of(operation);
     match command {
-        Command::Links(link) => join(link, rows, ld, rd),
-        Command::Sews(o) => sew(o, rows, marks, queue, vertices, coordinates, plan, ld, rd),
+        Command::Links(link) => join(link, rows, flags, ld, rd),
+        Command::Sews(o) => sew(
+            o,
+            rows,
+            marks,
+            queue,
+            flags,
+            vertices,
+            coordinates,
+            plan,
+            ld,
+            rd,
+        ),
         Command::Unknown => Answer::Refused(Refusal::BadCommand(operation)),
     }
 }

@@ -1,4 +1,4 @@
-// The calls: unsews for any rows, loans and darts.
+// The calls: unsews for any rows, flags, loans and darts.
 use map_betas::error::Answer;
 use sew_operations::operations::Operation;
 use sew_tested::tested::operate_bare;
@@ -12,13 +12,14 @@ pub fn one_unsew(
     rows: &mut [u32],
     marks: &mut [u8],
     queue: &mut [u32],
+    flags: &[u8],
     plan: &mut [u32],
     ld: u32,
 ) -> Answer
     ensures { λ a. ⌜ outcome a (now (rows .exit), now (marks .exit), now (queue .exit), now (plan .exit))
-        ≡ oneUnsew (now (rows .entry)) (now (marks .entry)) (now (queue .entry)) (now (plan .entry)) ld ⌝ }
+        ≡ oneUnsew (now (rows .entry)) (now (marks .entry)) (now (queue .entry)) (now (flags .entry)) (now (plan .entry)) ld ⌝ }
 {
-    operate_bare(Operation::OneUnsew, rows, marks, queue, plan, ld, ld)
+    operate_bare(Operation::OneUnsew, rows, marks, queue, flags, plan, ld, ld)
 }
 
 // The 2-unsew.
@@ -26,13 +27,14 @@ pub fn two_unsew(
     rows: &mut [u32],
     marks: &mut [u8],
     queue: &mut [u32],
+    flags: &[u8],
     plan: &mut [u32],
     ld: u32,
 ) -> Answer
     ensures { λ a. ⌜ outcome a (now (rows .exit), now (marks .exit), now (queue .exit), now (plan .exit))
-        ≡ twoUnsew (now (rows .entry)) (now (marks .entry)) (now (queue .entry)) (now (plan .entry)) ld ⌝ }
+        ≡ twoUnsew (now (rows .entry)) (now (marks .entry)) (now (queue .entry)) (now (flags .entry)) (now (plan .entry)) ld ⌝ }
 {
-    operate_bare(Operation::TwoUnsew, rows, marks, queue, plan, ld, ld)
+    operate_bare(Operation::TwoUnsew, rows, marks, queue, flags, plan, ld, ld)
 }
 
 // The 3-unsew.
@@ -40,11 +42,21 @@ pub fn three_unsew(
     rows: &mut [u32],
     marks: &mut [u8],
     queue: &mut [u32],
+    flags: &[u8],
     plan: &mut [u32],
     ld: u32,
 ) -> Answer
     ensures { λ a. ⌜ outcome a (now (rows .exit), now (marks .exit), now (queue .exit), now (plan .exit))
-        ≡ threeUnsew (now (rows .entry)) (now (marks .entry)) (now (queue .entry)) (now (plan .entry)) ld ⌝ }
+        ≡ threeUnsew (now (rows .entry)) (now (marks .entry)) (now (queue .entry)) (now (flags .entry)) (now (plan .entry)) ld ⌝ }
 {
-    operate_bare(Operation::ThreeUnsew, rows, marks, queue, plan, ld, ld)
+    operate_bare(
+        Operation::ThreeUnsew,
+        rows,
+        marks,
+        queue,
+        flags,
+        plan,
+        ld,
+        ld,
+    )
 }

@@ -2,8 +2,8 @@
 -- contracts cite. Assumes nothing.
 use mathlib.Core.Path.{_≡_, refl}
 use lib.Ieee.{add as plus, sub, mul, le}
-use Rattle.map_betas.specs.Maps.{badSize, breaks, breachAt, firstBreach, mapTest}
-use Rattle.map_betas.specs.Guards.{loanTest, noDart, guardOf}
+use Rattle.map_betas.specs.Maps.{badSize, breaks, breachAt, freeAt, unused, bound, firstBreach, mapTest}
+use Rattle.map_betas.specs.Guards.{loanTest, noDart, mapGuard, guardOf}
 use Rattle.map_betas.specs.Cores.{linkCore, unlinkCore}
 use Rattle.link_walk.specs.Walk.{stepOf, walk}
 use Rattle.link_walk.specs.Three.{threeLinkOn, threeUnlinkOn}
@@ -29,8 +29,8 @@ use Rattle.test_examples.specs.Sews.{lines as sewLines}
 use Rattle.test_examples.specs.Table.{seen, faceLines, table}
 
 pub agree : calls table ≡ sayings table
-unfolding table seen faceLines linkLines sewLines unsewLines calls sayings threeLink threeUnlink threeUnsew idCall guardOf loanTest noDart mapTest firstBreach
-    breachAt breaks badSize threeLinkOn threeUnlinkOn linkCore unlinkCore stepOf walk image mem add visit search orbit leastFrom least ident fresh insert
+unfolding table seen faceLines linkLines sewLines unsewLines calls sayings threeLink threeUnlink threeUnsew idCall guardOf mapGuard loanTest noDart mapTest firstBreach
+    bound unused freeAt breachAt breaks badSize threeLinkOn threeUnlinkOn linkCore unlinkCore stepOf walk image mem add visit search orbit leastFrom least ident fresh insert
     lower turn leg forward backward faceWalk faceId splitOf planOf putPlan entriesIf settled sewn threeFar pairEntries lefts rights entriesOf legOver
     pairsFrom endFrom firstPairs firstEnd backPairs pairsOf splitsOf threeEntries threeUnsewOn mergeOf oneSew oneUnsew twoSew twoUnsew bothThree oneEntries
     oneLinks oneSewOn secondCut agrees oneUnlinks oneUnsewOn sideOf twoEntries linkedSides twoSewOn twoUnsewOn slotAt slotsRefuse badGeometry plus sub mul le

@@ -1,5 +1,5 @@
 -- The lines of the 1- and 2-sews and unsews, the two worked 2-sews among them.
---   lone, flap, flap-sewn       maps: two darts; dart 1 with a beta 2 image; the same with 2 behind 1
+--   flap, flap-sewn             maps: dart 1 with a beta 2 image; the same with 2 behind 1
 --   strips, strips-sewn         open 1 2; 3 4, and these with 1 and 3 2-linked
 --   bent, bent-sewn             n=4 b1(3)=2 b3(1)=2, where a plan names a vertex that an entry before it has merged, and the same with 1 and 3 2-linked
 --   marked, none, places        vertices: slots 1 to 4 hold points, no slot does, the points
@@ -11,15 +11,12 @@ use lib.IntN.{pos}
 use lib.Ieee.{Float, fin}
 use Rattle.map_betas.specs.declared.error.Answer.{Answer}
 use Rattle.map_betas.specs.declared.error.Answer.the-variants.{Done, Refused}
-use Rattle.map_betas.specs.declared.error.Refusal.the-variants.{AlreadyFree, AsymmetricalFaces, BadGeometry, PlanRoom}
+use Rattle.map_betas.specs.declared.error.Refusal.the-variants.{NotAMap, BadDart, AlreadyFree, AsymmetricalFaces, BadGeometry, PlanRoom}
 use Rattle.map_betas.specs.Answers.{Outcome, outcome}
-use Rattle.link_glue.specs.Examples.{Line, line, row, free, pair, pair-linked}
+use Rattle.link_glue.specs.Examples.{Line, line, row, free, lone, pair, pair-linked, inUse}
 use Rattle.sew_points.specs.Geometry.{plusZero}
 use Rattle.sew_ground.specs.Calls.{SewLoans, oneSew, oneUnsew, twoSew, twoUnsew}
 use Rattle.sew_pairs.specs.Examples.{zeros3, zeros4, sevens}
-
-abbrev pub lone : List ℕ
-lone = free ++ free ++ free
 
 abbrev pub flap : List ℕ
 flap = free ++ row 0 0 3 0 ++ free ++ row 0 0 1 0
@@ -65,23 +62,26 @@ leaving a rows zeros plan = outcome a (rows, zeros, zeros, plan)
 unfoldable pub lines : List (Line (Outcome SewLoans))
 lines =
     -- nothing at the joint but ld and rd: no entry
-    line (oneSew lone zeros3 zeros3 sevens 1 2) (leaving (Done 0 0) pair zeros3 sevens)
+    line (oneSew lone zeros3 zeros3 (inUse lone) sevens 1 2) (leaving (Done 0 0) pair zeros3 sevens)
     -- the vertex of ld's beta 2 image and that of rd become one
-    ∷ line (oneSew flap zeros4 zeros4 (row 7 7 7 7) 1 2) (leaving (Done 0 1) flap-sewn zeros4 (row 1 2 3 2))
-    ∷ line (oneSew flap zeros4 zeros4 zeros3 1 2) (leaving (Refused (PlanRoom 1)) flap zeros4 zeros3)
-    ∷ line (oneUnsew flap-sewn zeros4 zeros4 (row 7 7 7 7) 1) (leaving (Done 2 1) flap zeros4 (row 11 3 2 2))
-    ∷ line (oneUnsew lone zeros3 zeros3 sevens 1) (leaving (Refused (AlreadyFree 1 1)) lone zeros3 sevens)
+    ∷ line (oneSew flap zeros4 zeros4 (inUse flap) (row 7 7 7 7) 1 2) (leaving (Done 0 1) flap-sewn zeros4 (row 1 2 3 2))
+    ∷ line (oneSew flap zeros4 zeros4 (inUse flap) zeros3 1 2) (leaving (Refused (PlanRoom 1)) flap zeros4 zeros3)
+    ∷ line (oneUnsew flap-sewn zeros4 zeros4 (inUse flap-sewn) (row 7 7 7 7) 1) (leaving (Done 2 1) flap zeros4 (row 11 3 2 2))
+    ∷ line (oneUnsew lone zeros3 zeros3 (inUse lone) sevens 1) (leaving (Refused (AlreadyFree 1 1)) lone zeros3 sevens)
     -- the second unlink reads the rows as written so far
-    ∷ line (oneUnsew pair-linked zeros3 zeros3 sevens 1) (leaving (Refused (AsymmetricalFaces 1 2)) pair-linked zeros3 sevens)
+    ∷ line (oneUnsew pair-linked zeros3 zeros3 (inUse pair-linked) sevens 1) (leaving (Refused (AsymmetricalFaces 1 2)) pair-linked zeros3 sevens)
     -- the edges run against each other: 2:1,1,3; 1:1,1,4; 1:2,2,3
-    ∷ line (twoSew strips zeros5 zeros5 marked (places origin east east origin) sevens 1 3)
+    ∷ line (twoSew strips zeros5 zeros5 (inUse strips) marked (places origin east east origin) sevens 1 3)
     (leaving (Done 0 3) strips-sewn zeros5 (row 2 1 1 3 ++ row 1 1 1 4 ++ row 1 2 2 3))
     -- the edges stand at a right angle: 10
-    ∷ line (twoSew strips zeros5 zeros5 marked (places origin east origin north) sevens 1 3)
+    ∷ line (twoSew strips zeros5 zeros5 (inUse strips) marked (places origin east origin north) sevens 1 3)
     (leaving (Refused (BadGeometry 2 1 3)) strips zeros5 sevens)
     -- names are taken before linking
-    ∷ line (twoSew bent zeros4 zeros4 zeros4 (origin ++ origin ++ origin ++ origin) sevens 1 3)
+    ∷ line (twoSew bent zeros4 zeros4 (inUse bent) zeros4 (origin ++ origin ++ origin ++ origin) sevens 1 3)
     (leaving (Done 0 3) bent-sewn zeros4 (row 2 1 1 3 ++ row 1 1 1 2 ++ row 1 2 2 3))
-    ∷ line (twoUnsew strips-sewn zeros5 zeros5 sevens 1) (leaving (Done 3 3) strips zeros5 (row 12 1 3 1 ++ row 11 1 4 1 ++ row 11 2 3 2))
-    ∷ line (twoUnsew strips zeros5 zeros5 sevens 1) (leaving (Refused (AlreadyFree 2 1)) strips zeros5 sevens)
+    ∷ line (twoUnsew strips-sewn zeros5 zeros5 (inUse strips-sewn) sevens 1) (leaving (Done 3 3) strips zeros5 (row 12 1 3 1 ++ row 11 1 4 1 ++ row 11 2 3 2))
+    ∷ line (twoUnsew strips zeros5 zeros5 (inUse strips) sevens 1) (leaving (Refused (AlreadyFree 2 1)) strips zeros5 sevens)
+    -- an unused dart that is given, and one that is linked
+    ∷ line (oneSew lone zeros3 zeros3 (0 ∷ 0 ∷ 1 ∷ []) sevens 1 2) (leaving (Refused (BadDart 2)) lone zeros3 sevens)
+    ∷ line (twoUnsew strips-sewn zeros5 zeros5 (0 ∷ 0 ∷ 0 ∷ 0 ∷ 1 ∷ []) sevens 1) (leaving (Refused (NotAMap 4 4)) strips-sewn zeros5 sevens)
     ∷ []

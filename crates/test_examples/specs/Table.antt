@@ -9,7 +9,7 @@ use mathlib.Core.List.{List, [], _∷_, _++_}
 use Rattle.map_betas.specs.declared.error.Answer.{Answer}
 use Rattle.map_betas.specs.declared.error.Answer.the-variants.{Done}
 use Rattle.map_betas.specs.Answers.{Outcome}
-use Rattle.link_glue.specs.Examples.{Line, line, row, free, pair, lines as linkLines}
+use Rattle.link_glue.specs.Examples.{Line, line, row, free, pair, inUse, lines as linkLines}
 use Rattle.cell_steps.specs.declared.cells.Class.the-variants.{Face}
 use Rattle.cell_names.specs.Calls.{idCall}
 use Rattle.sew_ground.specs.Calls.{SewLoans}
@@ -39,7 +39,7 @@ seen f (l ∷ ls) = line (f (l .call)) (f (l .says)) ∷ seen f ls
 
 -- the face of d, and what the document says
 abbrev pub face : List ℕ → List ℕ → ℕ → ℕ → Line Shown
-face rows zeros d says = line (ofFace rows (idCall rows zeros zeros Face d)) (shown (Done says 0) rows [])
+face rows zeros d says = line (ofFace rows (idCall rows zeros zeros (inUse rows) Face d)) (shown (Done says 0) rows [])
 
 -- n = 4, b1(3) = 2, b1(2) = 1, b3(2) = 3
 abbrev pub crossed : List ℕ

@@ -36,8 +36,9 @@ fn same_written(record: &[u8], output: &[u32], plan: &[u32], bytes: &[u8]) -> bo
 
 // Whether the loans are as the record says.
 fn same_loans(record: &[u8], rows: &[u32], output: &[u32], plan: &[u32]) -> bool {
-    let m = 4 * darts(record);
-    let after = 12 + size(record, 10) + m;
+    let n = darts(record);
+    let m = 4 * n;
+    let after = 12 + size(record, 10) + n + m;
     let written = after + m;
     if record.len() < written {
         return false;

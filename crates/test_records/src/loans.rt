@@ -1,4 +1,5 @@
 // What is lent to a call, by its record.
+use crate::records::darts;
 use crate::records::fill;
 use crate::records::size;
 ghost use Prim.Native.Nat.{_≤_};
@@ -15,7 +16,30 @@ pub fn numbers(record: &[u8], from: usize) -> [u32; 32] {
 
 // The rows before the call, and what stands behind them in the record.
 pub fn rows_before(record: &[u8]) -> [u32; 32] {
-    numbers(record, 12 + size(record, 10))
+    numbers(record, 12 + size(record, 10) + darts(record))
+}
+
+// The byte at a place, 0 behind the end.
+fn byte(bytes: &[u8], at: usize) -> u8 {
+    if bytes.len() <= at {
+        return 0;
+    }
+    bytes[at]
+}
+
+// The flags of a record: 8, of which a call is lent as many as there are darts.
+pub fn flags(record: &[u8]) -> [u8; 8] {
+    let at = 12 + size(record, 10);
+    [
+        byte(record, at),
+        byte(record, at + 1),
+        byte(record, at + 2),
+        byte(record, at + 3),
+        byte(record, at + 4),
+        byte(record, at + 5),
+        byte(record, at + 6),
+        byte(record, at + 7),
+    ]
 }
 
 // How many numbers a list of commands has, at most 32.

@@ -1,7 +1,7 @@
 // The records: what each says of one call, and what a walk over them met.
 //
 // A record is one byte for each number: operation, n, a, b, number, three values, points, room, count of betas, count of words written;
-// then the betas or the numbers of a list of commands, 4n rows before, 4n rows after, and the words written.
+// then the betas or the numbers of a list of commands, n flags, 4n rows before, 4n rows after, and the words written.
 ghost use Prim.Native.Nat.{_≤_};
 
 // What stands in output and plan before a call.
@@ -56,7 +56,7 @@ pub fn room(record: &[u8]) -> usize
 pub fn extent(bytes: &[u8]) -> usize
     ensures { λ r. ⌜ 12 ≤ r ⌝ }
 {
-    12 + size(bytes, 10) + 8 * darts(bytes) + size(bytes, 11)
+    12 + size(bytes, 10) + 9 * darts(bytes) + size(bytes, 11)
 }
 
 // Copies numbers of a record into rows.

@@ -14,6 +14,7 @@ pub fn call(
     record: &[u8],
     rows: &mut [u32],
     output: &mut [u32],
+    flags: &[u8],
     plan: &mut [u32],
     values: &mut [u64; 3],
 ) -> u32 {
@@ -24,15 +25,15 @@ pub fn call(
         return read(operation, rows, a, b, values);
     }
     if operation < 10 {
-        return link(operation, rows, a, b, values);
+        return link(operation, rows, flags, a, b, values);
     }
     if operation < 15 {
-        return join(record, rows, plan, values);
+        return join(record, rows, flags, plan, values);
     }
     if operation < 31 {
-        return cells(record, rows, output, values);
+        return cells(record, rows, output, flags, values);
     }
-    commands(record, rows, output, plan, values)
+    commands(record, rows, output, flags, plan, values)
 }
 
 // Beta reads and free tests.
@@ -46,14 +47,21 @@ fn read(operation: u32, rows: &[u32], a: u32, b: u32, values: &mut [u64; 3]) -> 
 }
 
 // Links and unlinks.
-fn link(operation: u32, rows: &mut [u32], a: u32, b: u32, values: &mut [u64; 3]) -> u32 {
+fn link(
+    operation: u32,
+    rows: &mut [u32],
+    flags: &[u8],
+    a: u32,
+    b: u32,
+    values: &mut [u64; 3],
+) -> u32 {
     match operation {
-        4 => links::inkcapper_one_link(rows, a, b, values),
-        5 => links::inkcapper_two_link(rows, a, b, values),
-        6 => links::inkcapper_three_link(rows, a, b, values),
-        7 => links::inkcapper_one_unlink(rows, a, values),
-        8 => links::inkcapper_two_unlink(rows, a, values),
-        9 => links::inkcapper_three_unlink(rows, a, values),
+        4 => links::inkcapper_one_link(rows, flags, a, b, values),
+        5 => links::inkcapper_two_link(rows, flags, a, b, values),
+        6 => links::inkcapper_three_link(rows, flags, a, b, values),
+        7 => links::inkcapper_one_unlink(rows, flags, a, values),
+        8 => links::inkcapper_two_unlink(rows, flags, a, values),
+        9 => links::inkcapper_three_unlink(rows, flags, a, values),
         _ => NONE,
     }
 }

@@ -1,6 +1,7 @@
 // The replay: record after record, each with its call.
 use crate::calls::call;
 use test_records::compared::as_recorded;
+use test_records::loans::flags;
 use test_records::loans::rows_before;
 use test_records::records::FILLER;
 use test_records::records::Walked;
@@ -11,9 +12,15 @@ use test_records::records::noted;
 use test_records::records::room;
 
 // Makes a record's call on these loans and compares.
-fn replayed(record: &[u8], rows: &mut [u32], output: &mut [u32], plan: &mut [u32]) -> bool {
+fn replayed(
+    record: &[u8],
+    rows: &mut [u32],
+    output: &mut [u32],
+    flags: &[u8],
+    plan: &mut [u32],
+) -> bool {
     let mut values = [0u64; 3];
-    let number = call(record, rows, output, plan, &mut values);
+    let number = call(record, rows, output, flags, plan, &mut values);
     as_recorded(record, number, &values, rows, output, plan)
 }
 
@@ -22,9 +29,17 @@ fn holds(record: &[u8]) -> bool {
     let mut rows = rows_before(record);
     let mut output = [FILLER; 32];
     let mut plan = [FILLER; 64];
-    let m = 4 * darts(record);
+    let lent = flags(record);
+    let n = darts(record);
+    let m = 4 * n;
     let words = room(record);
-    replayed(record, &mut rows[..m], &mut output, &mut plan[..words])
+    replayed(
+        record,
+        &mut rows[..m],
+        &mut output,
+        &lent[..n],
+        &mut plan[..words],
+    )
 }
 
 // Replays one record and counts it where it agrees.

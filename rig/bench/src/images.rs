@@ -5,7 +5,7 @@ use std::hint::black_box;
 use inkcapper::{Image, read_image, slices, write_image};
 
 use crate::clock::time;
-use crate::grid::Grid;
+use crate::grid::{Grid, used};
 use crate::lines::{Input, Line, POINTS, Points, Times, Who};
 use crate::report::{cell, ratio, thousands, times_text};
 
@@ -26,7 +26,7 @@ fn with_points(grid: &Grid, slots: &[usize]) -> Image {
         vertex_marks[slot] = 1;
         coordinates[place.clone()].copy_from_slice(&grid.coordinates[place]);
     }
-    Image { rows: grid.rows.clone(), flags: vec![0; n], vertex_marks, coordinates }
+    Image { rows: grid.rows.clone(), flags: used(n), vertex_marks, coordinates }
 }
 
 /// The bytes of an image of a grid.
@@ -107,7 +107,7 @@ mod tests {
         for (input, side) in grids.into_iter().zip([1, 3]) {
             let grid = cubes(side);
             let mut loans = Loans::new();
-            let vertices = loans.list(Cell::Vertex, &grid.rows, &vec![0; grid.vertex_marks.len()]).expect("a list");
+            let vertices = loans.list(Cell::Vertex, &grid.rows, &used(grid.vertex_marks.len())).expect("a list");
             measure(&mut times, input, &grid, vertices, 2);
         }
         let table = table(&times, &grids);

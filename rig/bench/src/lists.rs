@@ -4,7 +4,7 @@ use inkcapper::slices;
 use oracle::Oracle;
 
 use crate::clock::{Spread, human, time};
-use crate::grid::Grid;
+use crate::grid::{Grid, used};
 use crate::lines::{Input, Line, Times, Who};
 use crate::report::{cell, ratio, signed_cell, thousands, times_text};
 
@@ -107,27 +107,29 @@ fn entries(operation: u32) -> usize {
     }
 }
 
-/// What a list is lent beside rows and points, touched before it is measured.
+/// What a list is lent beside rows and points, touched before it is measured. No dart is unused.
 pub struct Lent {
     marks: Vec<u8>,
     queue: Vec<u32>,
     pub output: Vec<u32>,
+    flags: Vec<u8>,
     plan: Vec<u32>,
 }
 
 impl Lent {
     /// For lists of up to so many commands and entries.
     pub fn of(n: usize, commands: usize, entries: usize) -> Self {
-        Self { marks: vec![1; n], queue: vec![1; n], output: vec![1; 5 * commands], plan: vec![1; 4 * entries] }
+        let (output, flags) = (vec![1; 5 * commands], used(n));
+        Self { marks: vec![1; n], queue: vec![1; n], output, flags, plan: vec![1; 4 * entries] }
     }
 
     /// Makes a list: how long it took, and how many entries it wrote.
     pub fn make(&mut self, rows: &mut [u32], grid: &Grid, list: &[Command]) -> (f64, usize) {
-        let Self { marks, queue, output, plan } = self;
+        let Self { marks, queue, output, flags, plan } = self;
         let (points, at) = (&grid.vertex_marks, &grid.coordinates);
         let mut count = 0;
         let took = time(|| {
-            let answer = slices::commands(rows, marks, queue, output, points, at, plan, list.as_flattened());
+            let answer = slices::commands(rows, marks, queue, output, flags, points, at, plan, list.as_flattened());
             count = answer.done().expect("a list").1 as usize;
         });
         (took, count)

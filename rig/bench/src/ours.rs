@@ -3,10 +3,10 @@
 use inkcapper::{Answer, Cell, slices};
 
 use crate::clock::time;
-use crate::grid::Grid;
+use crate::grid::{Grid, used};
 use crate::lines::{CALLS, CELLS, Input, Line, PASSES, Times, Who};
 
-/// All that a call is lent, at its least size.
+/// All that a call is lent, at its least size. No dart is unused.
 struct Scratch {
     marks: Vec<u8>,
     queue: Vec<u32>,
@@ -18,7 +18,7 @@ struct Scratch {
 impl Scratch {
     fn of(rows: &[u32]) -> Self {
         let n = rows.len() / 4;
-        Self { marks: vec![0; n], queue: vec![0; n], output: vec![0; n], flags: vec![0; n], plan: vec![0; 64] }
+        Self { marks: vec![0; n], queue: vec![0; n], output: vec![0; n], flags: used(n), plan: vec![0; 64] }
     }
 
     /// A list, and how long it took.
@@ -52,7 +52,7 @@ fn pass(line: Line, rows: &[u32], scratch: &mut Scratch) -> f64 {
             scratch.marks.fill(0);
             scratch.queue.fill(0);
         }),
-        Line::MapTest => time(|| slices::check_map(rows).done().expect("a map")),
+        Line::MapTest => time(|| slices::check_map(rows, &scratch.flags).done().expect("a map")),
         _ => unreachable!("not a pass"),
     }
 }
@@ -122,17 +122,19 @@ pub fn calls(times: &mut Times, input: Input, grid: &mut Grid, places: &[usize],
     let mut ids = Lists::default();
     for _ in 0..runs {
         for &at in places {
-            let test = time(|| probes.iter().for_each(|_| _ = slices::check_map(rows).done().expect("a map")));
-            let Scratch { marks, queue, output, plan, .. } = &mut scratch;
+            let Scratch { marks, queue, output, flags, plan } = &mut scratch;
+            let test = time(|| probes.iter().for_each(|_| _ = slices::check_map(rows, flags).done().expect("a map")));
             // choosing the call each time is nothing beside a map test
             let mut call = |k: usize, d: u32| match CALLS[at] {
-                Line::Id(cell) => identifier(cell)(rows, marks, queue, d),
-                Line::Orbit(Cell::Vertex) => slices::orbit_vertex(rows, marks, output, d),
-                Line::Orbit(_) => slices::orbit_volume(rows, marks, output, d),
-                Line::ThreeUnlink => slices::three_unlink(rows, d),
-                Line::ThreeLink => slices::three_link(rows, d, across[k]),
-                Line::TwoUnsew => slices::two_unsew(rows, marks, queue, plan, d),
-                Line::TwoSew => slices::two_sew(rows, marks, queue, vertex_marks, coordinates, plan, d, beside[k]),
+                Line::Id(cell) => identifier(cell)(rows, marks, queue, flags, d),
+                Line::Orbit(Cell::Vertex) => slices::orbit_vertex(rows, marks, output, flags, d),
+                Line::Orbit(_) => slices::orbit_volume(rows, marks, output, flags, d),
+                Line::ThreeUnlink => slices::three_unlink(rows, flags, d),
+                Line::ThreeLink => slices::three_link(rows, flags, d, across[k]),
+                Line::TwoUnsew => slices::two_unsew(rows, marks, queue, flags, plan, d),
+                Line::TwoSew => {
+                    slices::two_sew(rows, marks, queue, flags, vertex_marks, coordinates, plan, d, beside[k])
+                }
                 _ => unreachable!("not a single call"),
             };
             let mut answers = Vec::with_capacity(probes.len());
@@ -147,16 +149,20 @@ pub fn calls(times: &mut Times, input: Input, grid: &mut Grid, places: &[usize],
         }
     }
     for &at in places {
-        let [took, test] = &found[at];
-        let beyond: Vec<f64> = took.iter().zip(test).map(|(took, test)| took - test).collect();
-        times.put(Who::Ours, input, CALLS[at], took);
-        times.put(Who::Ours, input, Line::TestBeside(at), test);
-        times.put(Who::Ours, input, Line::Beyond(at), &beyond);
+        put_call(times, input, at, &found[at]);
     }
     ids
 }
 
-type Identifier = fn(&[u32], &mut [u8], &mut [u32], u32) -> Answer;
+/// The times of a single call, of the map test beside it, and of what is beyond that.
+fn put_call(times: &mut Times, input: Input, at: usize, [took, test]: &[Vec<f64>; 2]) {
+    let beyond: Vec<f64> = took.iter().zip(test).map(|(took, test)| took - test).collect();
+    times.put(Who::Ours, input, CALLS[at], took);
+    times.put(Who::Ours, input, Line::TestBeside(at), test);
+    times.put(Who::Ours, input, Line::Beyond(at), &beyond);
+}
+
+type Identifier = fn(&[u32], &mut [u8], &mut [u32], &[u8], u32) -> Answer;
 
 fn identifier(cell: Cell) -> Identifier {
     match cell {

@@ -46,15 +46,25 @@ pub unsafe extern "C" fn inkcapper_is_free(rows: *const u32, rows_len: usize, d:
 }
 
 #[unsafe(no_mangle)]
-pub unsafe extern "C" fn inkcapper_check_map(rows: *const u32, rows_len: usize, values: *mut [u64; 3]) -> u32 {
-    tell(model::check_map(unsafe { read(rows, rows_len) }), values)
+pub unsafe extern "C" fn inkcapper_check_map(
+    rows: *const u32,
+    rows_len: usize,
+    flags: *const u8,
+    flags_len: usize,
+    values: *mut [u64; 3],
+) -> u32 {
+    let (rows, flags) = unsafe { (read(rows, rows_len), read(flags, flags_len)) };
+    tell(model::check_map(rows, flags), values)
 }
 
 macro_rules! links {
     ($($name:ident ($($dart:ident),*) = $model:path;)*) => { $(
         #[unsafe(no_mangle)]
-        pub unsafe extern "C" fn $name(rows: *mut u32, rows_len: usize, $($dart: u32,)* values: *mut [u64; 3]) -> u32 {
-            tell($model(unsafe { lent(rows, rows_len) }, $($dart),*), values)
+        pub unsafe extern "C" fn $name(
+            rows: *mut u32, rows_len: usize, flags: *const u8, flags_len: usize, $($dart: u32,)* values: *mut [u64; 3],
+        ) -> u32 {
+            let (rows, flags) = unsafe { (lent(rows, rows_len), read(flags, flags_len)) };
+            tell($model(rows, flags, $($dart),*), values)
         }
     )* };
 }
@@ -73,12 +83,13 @@ macro_rules! sews {
         #[unsafe(no_mangle)]
         pub unsafe extern "C" fn $name(
             rows: *mut u32, rows_len: usize, marks: *mut u8, marks_len: usize, queue: *mut u32, queue_len: usize,
-            plan: *mut u32, plan_len: usize, $($dart: u32,)* values: *mut [u64; 3],
+            flags: *const u8, flags_len: usize, plan: *mut u32, plan_len: usize, $($dart: u32,)*
+            values: *mut [u64; 3],
         ) -> u32 {
-            let (rows, marks, queue, plan) = unsafe {
-                (lent(rows, rows_len), lent(marks, marks_len), lent(queue, queue_len), lent(plan, plan_len))
-            };
-            tell($model(rows, marks, queue, plan, $($dart),*), values)
+            let (rows, marks, queue) =
+                unsafe { (lent(rows, rows_len), lent(marks, marks_len), lent(queue, queue_len)) };
+            let (flags, plan) = unsafe { (read(flags, flags_len), lent(plan, plan_len)) };
+            tell($model(rows, marks, queue, flags, plan, $($dart),*), values)
         }
     )* };
 }
@@ -98,6 +109,8 @@ pub unsafe extern "C" fn inkcapper_two_sew(
     marks_len: usize,
     queue: *mut u32,
     queue_len: usize,
+    flags: *const u8,
+    flags_len: usize,
     vertex_marks: *const u8,
     vertex_marks_len: usize,
     coordinates: *const f64,
@@ -108,11 +121,11 @@ pub unsafe extern "C" fn inkcapper_two_sew(
     rd: u32,
     values: *mut [u64; 3],
 ) -> u32 {
-    let (rows, marks, queue, plan) =
-        unsafe { (lent(rows, rows_len), lent(marks, marks_len), lent(queue, queue_len), lent(plan, plan_len)) };
+    let (rows, marks, queue) = unsafe { (lent(rows, rows_len), lent(marks, marks_len), lent(queue, queue_len)) };
+    let (flags, plan) = unsafe { (read(flags, flags_len), lent(plan, plan_len)) };
     let (vertex_marks, coordinates) =
         unsafe { (read(vertex_marks, vertex_marks_len), read(coordinates, coordinates_len)) };
-    tell(model::two_sew(rows, marks, queue, vertex_marks, coordinates, plan, ld, rd), values)
+    tell(model::two_sew(rows, marks, queue, flags, vertex_marks, coordinates, plan, ld, rd), values)
 }
 
 #[unsafe(no_mangle)]
@@ -125,6 +138,8 @@ pub unsafe extern "C" fn inkcapper_commands(
     queue_len: usize,
     output: *mut u32,
     output_len: usize,
+    flags: *const u8,
+    flags_len: usize,
     vertex_marks: *const u8,
     vertex_marks_len: usize,
     coordinates: *const f64,
@@ -139,8 +154,8 @@ pub unsafe extern "C" fn inkcapper_commands(
     let (output, plan) = unsafe { (lent(output, output_len), lent(plan, plan_len)) };
     let (vertex_marks, coordinates) =
         unsafe { (read(vertex_marks, vertex_marks_len), read(coordinates, coordinates_len)) };
-    let commands = unsafe { read(commands, commands_len) };
-    tell(model::commands(rows, marks, queue, output, vertex_marks, coordinates, plan, commands), values)
+    let (flags, commands) = unsafe { (read(flags, flags_len), read(commands, commands_len)) };
+    tell(model::commands(rows, marks, queue, output, flags, vertex_marks, coordinates, plan, commands), values)
 }
 
 macro_rules! identifiers {
@@ -148,11 +163,11 @@ macro_rules! identifiers {
         #[unsafe(no_mangle)]
         pub unsafe extern "C" fn $name(
             rows: *const u32, rows_len: usize, marks: *mut u8, marks_len: usize, queue: *mut u32, queue_len: usize,
-            d: u32, values: *mut [u64; 3],
+            flags: *const u8, flags_len: usize, d: u32, values: *mut [u64; 3],
         ) -> u32 {
-            let (rows, marks, queue) =
-                unsafe { (read(rows, rows_len), lent(marks, marks_len), lent(queue, queue_len)) };
-            tell(model::identifier($cell, rows, marks, queue, d), values)
+            let (rows, flags) = unsafe { (read(rows, rows_len), read(flags, flags_len)) };
+            let (marks, queue) = unsafe { (lent(marks, marks_len), lent(queue, queue_len)) };
+            tell(model::identifier($cell, rows, marks, queue, flags, d), values)
         }
     )* };
 }
@@ -169,11 +184,11 @@ macro_rules! orbits {
         #[unsafe(no_mangle)]
         pub unsafe extern "C" fn $name(
             rows: *const u32, rows_len: usize, marks: *mut u8, marks_len: usize, output: *mut u32, output_len: usize,
-            d: u32, values: *mut [u64; 3],
+            flags: *const u8, flags_len: usize, d: u32, values: *mut [u64; 3],
         ) -> u32 {
-            let (rows, marks, output) =
-                unsafe { (read(rows, rows_len), lent(marks, marks_len), lent(output, output_len)) };
-            tell(model::orbit($orbit, rows, marks, output, d), values)
+            let (rows, flags) = unsafe { (read(rows, rows_len), read(flags, flags_len)) };
+            let (marks, output) = unsafe { (lent(marks, marks_len), lent(output, output_len)) };
+            tell(model::orbit($orbit, rows, marks, output, flags, d), values)
         }
     )* };
 }
@@ -196,14 +211,16 @@ pub unsafe extern "C" fn inkcapper_orbit_custom(
     marks_len: usize,
     output: *mut u32,
     output_len: usize,
+    flags: *const u8,
+    flags_len: usize,
     betas: *const u8,
     betas_len: usize,
     d: u32,
     values: *mut [u64; 3],
 ) -> u32 {
     let (rows, marks, output) = unsafe { (read(rows, rows_len), lent(marks, marks_len), lent(output, output_len)) };
-    let betas = unsafe { read(betas, betas_len) };
-    tell(model::orbit(Orbit::Custom(betas), rows, marks, output, d), values)
+    let (flags, betas) = unsafe { (read(flags, flags_len), read(betas, betas_len)) };
+    tell(model::orbit(Orbit::Custom(betas), rows, marks, output, flags, d), values)
 }
 
 macro_rules! lists {

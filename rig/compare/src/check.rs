@@ -26,6 +26,17 @@ impl Finding {
     fn size(&self) -> (usize, usize) {
         (self.before.rows.len(), self.before.rows.iter().filter(|&&image| image != 0).count())
     }
+
+    /// Its lines of the report.
+    fn tell(&self, text: &mut String) {
+        let Self { kernel, call, place, expected, got, before, expected_after, after } = self;
+        let _ = writeln!(text, "DIFFERENCE {kernel}: {call:?} in {place}");
+        let _ =
+            writeln!(text, "  rows {:?} flags {:?}\n  expected {expected:?}, got {got:?}", before.rows, before.flags);
+        if !matches!(*place, "answer" | "panic") {
+            let _ = writeln!(text, "  before {before:?}\n  expected after {expected_after:?}\n  got after {after:?}");
+        }
+    }
 }
 
 /// How often a call was made and what came of it.
@@ -161,18 +172,7 @@ impl Comparison {
                 compared.join(", ")
             );
         }
-        for finding in self.findings.values() {
-            let _ = writeln!(
-                text,
-                "DIFFERENCE {}: {:?} in {}\n  rows {:?}\n  expected {:?}, got {:?}",
-                finding.kernel, finding.call, finding.place, finding.before.rows, finding.expected, finding.got
-            );
-            if !matches!(finding.place, "answer" | "panic") {
-                let _ = writeln!(text, "  before {:?}", finding.before);
-                let _ = writeln!(text, "  expected after {:?}", finding.expected_after);
-                let _ = writeln!(text, "  got after {:?}", finding.after);
-            }
-        }
+        self.findings.values().for_each(|finding| finding.tell(&mut text));
         text
     }
 }

@@ -277,15 +277,18 @@ impl Clone for Loans {
 
 impl Loans {
     /// Loans of the right size for these rows and a little beyond, filled with what a call must not
-    /// leave behind or must not touch.
+    /// leave behind or must not touch. No dart is unused; the flag of dart 0, at which only the writer looks, and
+    /// the one behind the last dart's are set.
     pub fn around(rows: Vec<u32>) -> Self {
         let n = rows.len() / 4;
+        let mut flags = vec![0; n + 1];
+        (flags[0], flags[n]) = (0xF1, 0xF1);
         Self {
             rows,
             marks: vec![0xA5; n + 1],
             queue: vec![0xDEAD_BEEF; n + 2],
             output: vec![0xFEED_0000; n + 3],
-            flags: vec![0; n + 1],
+            flags,
             vertex_marks: vec![0; n + 1],
             coordinates: vec![-7.25; 3 * n + 1],
             plan: vec![0xC0DE_0000; 4 * (3 * n + 1) + 3],

@@ -2,13 +2,13 @@
 //!
 //! Runs, each with its own numbers (a default is used for those left out):
 //!
-//! - `small K PART PARTS`: all well-formed maps of K real darts, every call and dart; of five darts
-//!   there are 1,045,096 maps and some 440 million calls, so a run can be split into parts
+//! - `small K PART PARTS`: all well-formed maps of K real darts, unused ones among them, every call and dart; of
+//!   five darts there are 1,045,096 maps and some 560 million calls, so a run can be split into parts
 //! - `walks ROUNDS STEPS SEED`: long walks of calls over random maps and grids of cubes
 //! - `edges LONGEST ROUNDS SEED`: round and open edges of up to LONGEST darts, then random maps, the edge of
 //!   every dart named
 //! - `floats ROUNDS SEED`: 2-sews over NaN, infinities, zeros, ties
-//! - `refusals ROUNDS SEED`: wrong sizes, loans, rows, darts, betas, plan room
+//! - `refusals ROUNDS SEED`: wrong sizes, loans, rows, flags, darts, betas, plan room
 //! - `largest`: the largest map, one dart more, lengths that are no rows, long faces, whole grids, the largest
 //!   images
 //! - `images ROUNDS SEED`: stored images, right and wrong
@@ -23,6 +23,8 @@
 //!   every STRIDE-th call, one on a line (`runs::answers` says how); with POINTS 1 or 2 of 2-sews with
 //!   vertices
 //! - `wrong COUNT SEED`: prints the model's refusals 1, 3, 4 and 5 in the same form
+//! - `unused COUNT SEED`: prints calls on maps with unused darts in the same form: the published Rust's answers,
+//!   and the model's refusals 3 and 4
 //! - `listed COUNT SEED`: prints the published Rust's answers to lists of commands in the same form, and the
 //!   model's where a whole list is refused
 //! - `cases FOLDER COUNT SEED`: writes images, and what the report program must print for each
@@ -40,7 +42,7 @@ use compare::{Comparison, Kernel, Library, Published, Random, maps, runs};
 fn main() -> ExitCode {
     let arguments: Vec<String> = std::env::args().skip(1).collect();
     match arguments.first().map(String::as_str) {
-        Some(run @ ("answers" | "wrong" | "listed")) => return answers(run, &arguments[1..]),
+        Some(run @ ("answers" | "wrong" | "unused" | "listed")) => return answers(run, &arguments[1..]),
         Some("cases") => return cases(&arguments[1..]),
         _ => {}
     }
@@ -105,7 +107,7 @@ fn number(word: &str) -> u64 {
 /// Says which runs there are, and ends with 2.
 fn usage<T>(word: &str) -> T {
     eprintln!(
-        "compare: {word}? runs are small, walks, edges, floats, refusals, largest, images, bytes, writes, lists, answers, wrong, listed, cases"
+        "compare: {word}? runs are small, walks, edges, floats, refusals, largest, images, bytes, writes, lists, answers, wrong, unused, listed, cases"
     );
     std::process::exit(2)
 }
@@ -122,6 +124,7 @@ fn answers(run: &str, arguments: &[String]) -> ExitCode {
     };
     match run {
         "wrong" => runs::wrong(number(0, 600), number(1, 1) as u64, print),
+        "unused" => runs::unused(number(0, 800), number(1, 1) as u64, print),
         "listed" => runs::listed(number(0, 500), number(1, 1) as u64, print),
         _ => runs::answers(&mut Published::default(), number(0, 2), number(1, 1), number(2, 0), print),
     }
@@ -137,7 +140,10 @@ fn some_image(random: &mut Random, case: u64) -> Vec<u8> {
         3 => 1 + random.below(1024),
         _ => 1 + random.below(12),
     };
-    let rows = if random.percent(50) { maps::wild(random, n) } else { maps::faces(random, n) };
+    let mut rows = if random.percent(50) { maps::wild(random, n) } else { maps::faces(random, n) };
+    if random.percent(50) {
+        (1..n).step_by(3).for_each(|d| maps::set_free(&mut rows, d));
+    }
     let mut image = runs::image_of(random, &rows);
     let faults = *random.pick(&[0, 0, 1, 2]);
     runs::spoil_image(random, &mut image, n, faults);

@@ -125,7 +125,7 @@ pub fn wild(random: &mut Random, n: usize) -> Vec<u32> {
 
 /// Chains and loops of up to seven darts, some 2-linked, some faces 3-linked as a whole.
 pub fn faces(random: &mut Random, n: usize) -> Vec<u32> {
-    let mut rows = vec![0; 4 * n];
+    let (mut rows, used) = (vec![0; 4 * n], vec![0; n]);
     let mut darts: Vec<u32> = (1..n as u32).collect();
     random.shuffle(&mut darts);
     let closed = random.below(101);
@@ -143,7 +143,7 @@ pub fn faces(random: &mut Random, n: usize) -> Vec<u32> {
     for _ in 0..n {
         if n > 2 {
             let (ld, rd) = (1 + random.below(n - 1) as u32, 1 + random.below(n - 1) as u32);
-            model::three_link(&mut rows, ld, rd);
+            model::three_link(&mut rows, &used, ld, rd);
         }
     }
     rows
@@ -163,6 +163,31 @@ pub fn edge(random: &mut Random, length: usize, first: usize, round: bool) -> Ve
         join(&mut rows, by(length - 1), met[length - 1], met[0]);
     }
     rows
+}
+
+/// Whether a dart has no image.
+pub fn is_free(rows: &[u32], d: usize) -> bool {
+    rows[4 * d..4 * d + 4] == [0; 4]
+}
+
+/// Takes every image of a dart of a map away, and with it the way back.
+pub fn set_free(rows: &mut [u32], d: usize) {
+    for (i, back) in [1, 0, 2, 3].into_iter().enumerate() {
+        let to = std::mem::take(&mut rows[4 * d + i]);
+        if to != 0 {
+            rows[4 * to as usize + back] = 0;
+        }
+    }
+}
+
+/// Every choice of unused darts that a map allows, each as the darts; none first.
+pub fn unused_choices(rows: &[u32]) -> Vec<Vec<usize>> {
+    let mut choices = vec![Vec::new()];
+    for d in (1..rows.len() / 4).filter(|&d| is_free(rows, d)) {
+        let with_it: Vec<Vec<usize>> = choices.iter().map(|choice| [&choice[..], &[d]].concat()).collect();
+        choices.extend(with_it);
+    }
+    choices
 }
 
 /// A corner of the grid, or twice the middle of a face.
@@ -229,10 +254,19 @@ mod tests {
         assert_eq!([0, 1, 2, 3, 4].map(how_many), [1, 2, 28, 544, 20_900]);
         let mut seen = std::collections::HashSet::new();
         all_of(3, |rows| {
-            assert_eq!(model::first_breach(rows), None);
+            assert_eq!(model::first_breach(rows, &[0; 4]), None);
             assert!(seen.insert(rows.to_vec()));
         });
         assert_eq!(seen.len(), 544);
+    }
+
+    /// Of maps of k darts with a choice of unused ones there are as many as of maps of the darts in use.
+    #[test]
+    fn choices_of_unused_darts_are_all_there() {
+        let mut pairs = 0;
+        all_of(3, |rows| pairs += unused_choices(rows).len() as u64);
+        assert_eq!(pairs, how_many(3) + 3 * how_many(2) + 3 * how_many(1) + how_many(0));
+        assert_eq!(unused_choices(&[0; 12]), [vec![], vec![1], vec![2], vec![1, 2]]);
     }
 
     #[test]
@@ -242,7 +276,7 @@ mod tests {
         for code in 0..3u32.pow(8) {
             let mut rows = [0; 12];
             (0..8).for_each(|k| rows[4 + k] = code / 3u32.pow(k as u32) % 3);
-            well_formed += u64::from(model::first_breach(&rows).is_none());
+            well_formed += u64::from(model::first_breach(&rows, &[0; 3]).is_none());
         }
         assert_eq!(well_formed, how_many(2));
     }
@@ -251,13 +285,20 @@ mod tests {
     fn random_maps_and_grids_are_well_formed() {
         let mut random = Random::new(1);
         for n in 1..60 {
-            assert_eq!(model::first_breach(&wild(&mut random, n)), None);
-            assert_eq!(model::first_breach(&faces(&mut random, n)), None);
-            assert_eq!(model::first_breach(&edge(&mut random, n, 2 + n % 2, n % 3 > 0)), None);
+            let maps = [wild(&mut random, n), faces(&mut random, n), edge(&mut random, n, 2 + n % 2, n % 3 > 0)];
+            for mut rows in maps {
+                let mut flags = vec![0; rows.len() / 4];
+                assert_eq!(model::first_breach(&rows, &flags), None);
+                for d in (1..flags.len()).step_by(3) {
+                    set_free(&mut rows, d);
+                    flags[d] = 1;
+                }
+                assert_eq!(model::first_breach(&rows, &flags), None);
+            }
         }
         let (rows, _, _) = cubes([2, 2, 1]);
-        assert_eq!(model::first_breach(&rows), None);
         let n = rows.len() / 4;
+        assert_eq!(model::first_breach(&rows, &vec![0; n]), None);
         assert!((1..n).all(|d| rows[4 * d + 2] != 0));
         // four cubes in a square share four faces: 32 darts with beta 3
         assert_eq!((1..n).filter(|&d| rows[4 * d + 3] != 0).count(), 32);

@@ -5,6 +5,8 @@ use compare::{Answer, Call, Cell, Comparison, Kernel, Loans, Model, Orbit, runs}
 
 #[path = "notices/commands.rs"]
 mod commands;
+#[path = "notices/flags.rs"]
+mod flags;
 #[path = "notices/writer.rs"]
 mod writer;
 

@@ -32,7 +32,7 @@ fn free(darts: usize) -> Image {
 
 /// Makes a closed face of these darts.
 fn close(image: &mut Image, face: &[u32]) -> Result<(), Refusal> {
-    (0..face.len()).try_for_each(|k| map::one_link(&mut image.rows, face[k], face[(k + 1) % face.len()]))
+    (0..face.len()).try_for_each(|k| map::one_link(&mut image.rows, &image.flags, face[k], face[(k + 1) % face.len()]))
 }
 
 /// Puts a point into the slot of a dart.
@@ -45,7 +45,7 @@ fn put(image: &mut Image, dart: u32, point: Corner) {
 /// Two darts, one behind the other, with open ends.
 fn open_strip() -> Result<Image, Refusal> {
     let mut strip = free(2);
-    map::one_link(&mut strip.rows, 1, 2)?;
+    map::one_link(&mut strip.rows, &strip.flags, 1, 2)?;
     put(&mut strip, 1, [0, 0, 0]);
     put(&mut strip, 2, [1, 0, 0]);
     Ok(strip)
@@ -56,7 +56,7 @@ fn valve_seat() -> Result<Image, Refusal> {
     let mut seat = free(7);
     close(&mut seat, &[1, 2, 3])?;
     close(&mut seat, &[4, 5, 6, 7])?;
-    map::three_link(&mut seat.rows, 1, 4)?;
+    map::three_link(&mut seat.rows, &seat.flags, 1, 4)?;
     for (dart, point) in [(1, [0, 0, 0]), (2, [1, 0, 0]), (3, [0, 1, 0]), (5, [-1, 1, 0])] {
         put(&mut seat, dart, point);
     }
@@ -87,7 +87,7 @@ fn cube_grid(side: i32) -> Result<Image, Refusal> {
                 let (dart, from, to) = (first + k as u32, face[k], face[(k + 1) % 4]);
                 edges_met.insert((from, to), dart);
                 if let Some(&other) = edges_met.get(&(to, from)) {
-                    map::two_link(&mut grid.rows, other, dart)?;
+                    map::two_link(&mut grid.rows, &grid.flags, other, dart)?;
                 }
             }
             // twice the middle names the face, which is met from both sides
@@ -95,7 +95,7 @@ fn cube_grid(side: i32) -> Result<Image, Refusal> {
             if let Some(other) = faces_met.insert(middle, first) {
                 // the dart of the other side that runs against the first of this one starts where that ends
                 for against in (other..other + 4).filter(|&d| starts[d as usize] == face[1]) {
-                    map::three_link(&mut grid.rows, first, against)?;
+                    map::three_link(&mut grid.rows, &grid.flags, first, against)?;
                 }
             }
         }

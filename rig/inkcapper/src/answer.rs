@@ -14,7 +14,7 @@ pub enum Answer {
         /// for the writer.
         count: u64,
     },
-    /// Refused; rows, vertices, plan, output and bytes are as they were (scope: what is left).
+    /// Refused; rows, flags, vertices, plan, output and bytes are as they were (scope: what is left).
     Refused(Refusal),
 }
 
@@ -27,9 +27,10 @@ pub enum Refusal {
     /// 2: a loan is below its size. Loans are numbered 1 to 7: marks, queue, output, flags, vertex
     /// marks, coordinates, rows.
     ShortLoan { loan: u32 },
-    /// 3: the image of this dart under this beta is the first that breaks a rule of maps.
+    /// 3: the image of this dart under this beta is the first that breaks a rule of maps; beta 4 says that the dart
+    /// is unused and yet has an image.
     NotAMap { beta: u32, dart: u32 },
-    /// 4: the first or second dart is not below n, or is 0 where a real one is asked for.
+    /// 4: the first or second dart is not below n, or is 0 or unused where a real one in use is asked for.
     BadDart { argument: u32 },
     /// 5: a beta number above 3.
     BadBeta { value: u32 },
@@ -65,6 +66,7 @@ impl Answer {
     /// let refused = Answer::from_parts(11, [4, 0, 0]);
     /// assert_eq!(refused, Answer::Refused(Refusal::PlanRoom { entries: 4 }));
     /// assert_eq!(refused.to_string(), "refused 11: the plan needs room for 4 entries");
+    /// assert_eq!(Answer::from_parts(3, [4, 7, 0]).to_string(), "refused 3: dart 7 is unused and not free");
     /// assert_eq!(Answer::from_parts(13, [12, 0, 0]).to_string(), "refused 13: there is no operation 12");
     /// assert_eq!(Answer::from_parts(14, [96, 0, 0]).to_string(), "refused 14: the image needs 96 bytes");
     /// assert_eq!(Answer::from_parts(11, [4, 0, 1]).parts(), (11, [4, 0, 1]));
@@ -166,8 +168,9 @@ impl fmt::Display for Refusal {
         match *self {
             Self::BadSize { length } => write!(f, "{length} is no row length of a map"),
             Self::ShortLoan { loan } => write!(f, "the {} (loan {loan}) are too short", loan_name(loan)),
+            Self::NotAMap { beta: 4, dart } => write!(f, "dart {dart} is unused and not free"),
             Self::NotAMap { beta, dart } => write!(f, "beta {beta} of dart {dart} breaks a rule of maps"),
-            Self::BadDart { argument } => write!(f, "dart argument {argument} is no dart of this map"),
+            Self::BadDart { argument } => write!(f, "dart argument {argument} is no dart of this map, or 0 or unused"),
             Self::BadBeta { value } => write!(f, "there is no beta {value}"),
             Self::NonFreeBase { i, l, r } => write!(f, "cannot link {l} to {r}: beta {i} of {l} is not null"),
             Self::NonFreeImage { i, l, r } => write!(f, "cannot link {l} to {r}: beta {i} of {r} is not free"),

@@ -137,6 +137,36 @@ fn are_answers(numbers: &[u32], count: u64) -> bool {
 }
 
 impl Loans {
+    /// Makes the list that is held, from the same rows again as long as its plan runs out and could be longer.
+    fn until_there_is_room(
+        &mut self,
+        rows: &mut [u32],
+        flags: &[u8],
+        vertices: Vertices<'_>,
+        most: usize,
+    ) -> Result<(u32, u64), Refusal> {
+        loop {
+            let done = slices::commands(
+                rows,
+                &mut self.marks,
+                &mut self.queue,
+                &mut self.lists.answers,
+                flags,
+                vertices.marks,
+                vertices.coordinates,
+                &mut self.plan,
+                &self.lists.commands,
+            );
+            let answer = done.done()?;
+            let room = self.plan.len() / 4;
+            if room >= most || !self.lists.answers.chunks_exact(5).any(|five| five[0] == 11) {
+                return Ok(answer);
+            }
+            rows.copy_from_slice(&self.lists.rows);
+            self.grow_plan((2 * room).min(most));
+        }
+    }
+
     /// Makes the commands of a list one after another, under one map test (scope: commands).
     ///
     /// A command that is refused changes nothing, and the list goes on. Plan room is seen to: no command is
@@ -147,7 +177,7 @@ impl Loans {
     /// # #[cfg(not(feature = "linked"))] extern crate c_names;
     /// use inkcapper::{Command, Loans, Refusal, Vertices};
     ///
-    /// let mut rows = vec![0; 12]; // two free darts
+    /// let (mut rows, flags) = (vec![0; 12], [0; 3]); // two free darts
     /// let vertices = Vertices { marks: &[0; 3], coordinates: &[0.0; 9] }; // without points
     /// let list = [
     ///     Command::ThreeLink { ld: 1, rd: 2 },
@@ -155,7 +185,7 @@ impl Loans {
     ///     Command::ThreeUnsew { ld: 1 },
     /// ];
     /// let mut loans = Loans::new();
-    /// let mut answers = loans.commands(&mut rows, vertices, &list)?;
+    /// let mut answers = loans.commands(&mut rows, &flags, vertices, &list)?;
     /// assert_eq!(answers.next().unwrap()?.plan, []);
     /// assert_eq!(answers.next(), Some(Err(Refusal::NonFreeBase { i: 3, l: 1, r: 2 })));
     /// let unsewn = answers.next().unwrap()?;
@@ -165,10 +195,11 @@ impl Loans {
     ///
     /// # Errors
     ///
-    /// Of the whole list refusals 1 and 3, and 2 for short vertices; then no command was made.
+    /// Of the whole list refusals 1 and 3, and 2 for short flags or vertices; then no command was made.
     pub fn commands(
         &mut self,
         rows: &mut [u32],
+        flags: &[u8],
         vertices: Vertices<'_>,
         list: &[Command],
     ) -> Result<Answers<'_>, Refusal> {
@@ -184,25 +215,7 @@ impl Loans {
             self.lists.rows.clear();
             self.lists.rows.extend_from_slice(rows);
         }
-        let (first, count) = loop {
-            let done = slices::commands(
-                rows,
-                &mut self.marks,
-                &mut self.queue,
-                &mut self.lists.answers,
-                vertices.marks,
-                vertices.coordinates,
-                &mut self.plan,
-                &self.lists.commands,
-            );
-            let (first, count) = done.done()?;
-            let room = self.plan.len() / 4;
-            if room >= most || !self.lists.answers.chunks_exact(5).any(|five| five[0] == 11) {
-                break (first, count);
-            }
-            rows.copy_from_slice(&self.lists.rows);
-            self.grow_plan((2 * room).min(most));
-        };
+        let (first, count) = self.until_there_is_room(rows, flags, vertices, most)?;
         if !are_answers(&self.lists.answers, count) {
             // a fault of the library, and named as such
             return Err(Refusal::Unknown { number: 0, values: [first.into(), count, 0] });

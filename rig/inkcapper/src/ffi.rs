@@ -13,14 +13,13 @@ unsafe extern "C" {
     pub fn inkcapper_is_i_free(rows: *const u32, rows_len: usize, i: u32, d: u32, values: Values) -> u32;
     pub fn inkcapper_is_free(rows: *const u32, rows_len: usize, d: u32, values: Values) -> u32;
 
-    pub fn inkcapper_check_map(rows: *const u32, rows_len: usize, values: Values) -> u32;
-
-    pub fn inkcapper_one_link(rows: *mut u32, rows_len: usize, ld: u32, rd: u32, values: Values) -> u32;
-    pub fn inkcapper_two_link(rows: *mut u32, rows_len: usize, ld: u32, rd: u32, values: Values) -> u32;
-    pub fn inkcapper_three_link(rows: *mut u32, rows_len: usize, ld: u32, rd: u32, values: Values) -> u32;
-    pub fn inkcapper_one_unlink(rows: *mut u32, rows_len: usize, ld: u32, values: Values) -> u32;
-    pub fn inkcapper_two_unlink(rows: *mut u32, rows_len: usize, ld: u32, values: Values) -> u32;
-    pub fn inkcapper_three_unlink(rows: *mut u32, rows_len: usize, ld: u32, values: Values) -> u32;
+    pub fn inkcapper_check_map(
+        rows: *const u32,
+        rows_len: usize,
+        flags: *const u8,
+        flags_len: usize,
+        values: Values,
+    ) -> u32;
 
     pub fn inkcapper_one_sew(
         rows: *mut u32,
@@ -29,22 +28,12 @@ unsafe extern "C" {
         marks_len: usize,
         queue: *mut u32,
         queue_len: usize,
+        flags: *const u8,
+        flags_len: usize,
         plan: *mut u32,
         plan_len: usize,
         ld: u32,
         rd: u32,
-        values: Values,
-    ) -> u32;
-    pub fn inkcapper_one_unsew(
-        rows: *mut u32,
-        rows_len: usize,
-        marks: *mut u8,
-        marks_len: usize,
-        queue: *mut u32,
-        queue_len: usize,
-        plan: *mut u32,
-        plan_len: usize,
-        ld: u32,
         values: Values,
     ) -> u32;
     pub fn inkcapper_two_sew(
@@ -54,6 +43,8 @@ unsafe extern "C" {
         marks_len: usize,
         queue: *mut u32,
         queue_len: usize,
+        flags: *const u8,
+        flags_len: usize,
         vertex_marks: *const u8,
         vertex_marks_len: usize,
         coordinates: *const f64,
@@ -64,31 +55,6 @@ unsafe extern "C" {
         rd: u32,
         values: Values,
     ) -> u32;
-    pub fn inkcapper_two_unsew(
-        rows: *mut u32,
-        rows_len: usize,
-        marks: *mut u8,
-        marks_len: usize,
-        queue: *mut u32,
-        queue_len: usize,
-        plan: *mut u32,
-        plan_len: usize,
-        ld: u32,
-        values: Values,
-    ) -> u32;
-    pub fn inkcapper_three_unsew(
-        rows: *mut u32,
-        rows_len: usize,
-        marks: *mut u8,
-        marks_len: usize,
-        queue: *mut u32,
-        queue_len: usize,
-        plan: *mut u32,
-        plan_len: usize,
-        ld: u32,
-        values: Values,
-    ) -> u32;
-
     pub fn inkcapper_commands(
         rows: *mut u32,
         rows_len: usize,
@@ -98,6 +64,8 @@ unsafe extern "C" {
         queue_len: usize,
         output: *mut u32,
         output_len: usize,
+        flags: *const u8,
+        flags_len: usize,
         vertex_marks: *const u8,
         vertex_marks_len: usize,
         coordinates: *const f64,
@@ -116,6 +84,8 @@ unsafe extern "C" {
         marks_len: usize,
         output: *mut u32,
         output_len: usize,
+        flags: *const u8,
+        flags_len: usize,
         betas: *const u8,
         betas_len: usize,
         d: u32,
@@ -159,9 +129,28 @@ macro_rules! alike {
 }
 
 alike! {
+    inkcapper_one_link inkcapper_two_link inkcapper_three_link => (
+        rows: *mut u32, rows_len: usize, flags: *const u8, flags_len: usize, ld: u32, rd: u32, values: Values,
+    )
+}
+
+alike! {
+    inkcapper_one_unlink inkcapper_two_unlink inkcapper_three_unlink => (
+        rows: *mut u32, rows_len: usize, flags: *const u8, flags_len: usize, ld: u32, values: Values,
+    )
+}
+
+alike! {
+    inkcapper_one_unsew inkcapper_two_unsew inkcapper_three_unsew => (
+        rows: *mut u32, rows_len: usize, marks: *mut u8, marks_len: usize, queue: *mut u32, queue_len: usize,
+        flags: *const u8, flags_len: usize, plan: *mut u32, plan_len: usize, ld: u32, values: Values,
+    )
+}
+
+alike! {
     inkcapper_vertex_id inkcapper_edge_id inkcapper_face_id inkcapper_volume_id => (
         rows: *const u32, rows_len: usize, marks: *mut u8, marks_len: usize, queue: *mut u32, queue_len: usize,
-        d: u32, values: Values,
+        flags: *const u8, flags_len: usize, d: u32, values: Values,
     )
 }
 
@@ -169,7 +158,7 @@ alike! {
     inkcapper_orbit_vertex inkcapper_orbit_vertex_linear inkcapper_orbit_edge inkcapper_orbit_face
     inkcapper_orbit_face_linear inkcapper_orbit_volume inkcapper_orbit_volume_linear => (
         rows: *const u32, rows_len: usize, marks: *mut u8, marks_len: usize, output: *mut u32, output_len: usize,
-        d: u32, values: Values,
+        flags: *const u8, flags_len: usize, d: u32, values: Values,
     )
 }
 

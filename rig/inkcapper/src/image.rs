@@ -9,7 +9,7 @@ use crate::slices;
 pub struct Image {
     /// The four images of each dart, dart after dart (scope: rows).
     pub rows: Vec<u32>,
-    /// 1 where the dart is unused; the writer takes any number but 0 for 1.
+    /// 1 where the dart is unused, and so has no image; the writer takes any number but 0 for 1.
     pub flags: Vec<u8>,
     /// 1 where the slot holds a point; the writer takes any number but 0 for 1.
     pub vertex_marks: Vec<u8>,
@@ -51,7 +51,7 @@ pub fn read_image(bytes: &[u8]) -> Result<Image, Refusal> {
 /// # #[cfg(not(feature = "linked"))] extern crate c_names;
 /// use inkcapper::{Image, Refusal, map, read_image, write_image};
 /// let mut image = Image { rows: vec![0; 12], flags: vec![0; 3], vertex_marks: vec![0; 3], coordinates: vec![0.0; 9] };
-/// map::one_link(&mut image.rows, 1, 2)?;
+/// map::one_link(&mut image.rows, &image.flags, 1, 2)?;
 /// image.vertex_marks[2] = 1;
 /// image.coordinates[6..].copy_from_slice(&[1.0, -0.0, 2.5]);
 /// let bytes = write_image(&image)?;
@@ -60,6 +60,8 @@ pub fn read_image(bytes: &[u8]) -> Result<Image, Refusal> {
 ///
 /// image.coordinates[7] = f64::INFINITY;
 /// assert_eq!(write_image(&image), Err(Refusal::BadImage { part: 8 }));
+/// image.flags[1] = 1; // an unused dart that is linked
+/// assert_eq!(write_image(&image), Err(Refusal::NotAMap { beta: 4, dart: 1 }));
 /// # Ok::<(), Refusal>(())
 /// ```
 ///

@@ -1,4 +1,4 @@
-//! Loans that grow to what a map needs, so that a caller holds nothing but rows.
+//! Loans that grow to what a map needs, so that a caller holds nothing but rows and flags.
 
 use crate::answer::{Answer, Refusal};
 use crate::commands::Lists;
@@ -107,17 +107,19 @@ pub struct Vertices<'a> {
 /// # #[cfg(not(feature = "linked"))] extern crate c_names;
 /// use inkcapper::{Cell, Entry, Kind, Loans, Orbit, Refusal, map};
 ///
-/// let mut rows = vec![0; 12]; // two free darts
+/// let (mut rows, flags) = (vec![0; 16], [0, 0, 0, 1]); // two free darts, and one that is unused
 /// let mut loans = Loans::new();
-/// map::three_link(&mut rows, 1, 2)?;
-/// assert_eq!(loans.identifier(Cell::Face, &rows, 2)?, 1);
-/// assert_eq!(loans.orbit(Orbit::Edge, &rows, 2)?, [2, 1]);
+/// map::three_link(&mut rows, &flags, 1, 2)?;
+/// assert_eq!(loans.identifier(Cell::Face, &rows, &flags, 2)?, 1);
+/// assert_eq!(loans.orbit(Orbit::Edge, &rows, &flags, 2)?, [2, 1]);
+/// assert_eq!(loans.orbit(Orbit::Edge, &rows, &flags, 3)?, [3]); // an unused dart stands alone
 ///
-/// let sewn = loans.three_unsew(&mut rows, 1)?;
+/// let sewn = loans.three_unsew(&mut rows, &flags, 1)?;
 /// assert_eq!(sewn.dart, 2);
 /// assert_eq!(sewn.plan.len(), 4);
 /// assert_eq!(sewn.plan[0], Entry { class: Cell::Face, kind: Kind::Split, left: 1, right: 2, whole: 1 });
-/// assert_eq!(loans.three_unsew(&mut rows, 1), Err(Refusal::AlreadyFree { i: 3, d: 1 }));
+/// assert_eq!(loans.three_unsew(&mut rows, &flags, 1), Err(Refusal::AlreadyFree { i: 3, d: 1 }));
+/// assert_eq!(loans.three_unsew(&mut rows, &flags, 3), Err(Refusal::BadDart { argument: 1 }));
 /// # Ok::<(), Refusal>(())
 /// ```
 #[derive(Debug, Default, Clone)]
@@ -173,12 +175,12 @@ impl Loans {
         Ok(())
     }
 
-    /// The identifier of the cell of `d`.
+    /// The identifier of the cell of `d`; an unused dart is alone in its cell.
     ///
     /// # Errors
     ///
-    /// Refusals 1, 3 and 4.
-    pub fn identifier(&mut self, cell: Cell, rows: &[u32], d: u32) -> Result<u32, Refusal> {
+    /// Refusals 1, 3 and 4, and 2 for short flags.
+    pub fn identifier(&mut self, cell: Cell, rows: &[u32], flags: &[u8], d: u32) -> Result<u32, Refusal> {
         self.grow(rows);
         let call = match cell {
             Cell::Vertex => slices::vertex_id,
@@ -186,26 +188,26 @@ impl Loans {
             Cell::Face => slices::face_id,
             Cell::Volume => slices::volume_id,
         };
-        call(rows, &mut self.marks, &mut self.queue, d).done().map(|(first, _)| first)
+        call(rows, &mut self.marks, &mut self.queue, flags, d).done().map(|(first, _)| first)
     }
 
     /// The darts of an orbit of `d`, first found first.
     ///
     /// # Errors
     ///
-    /// Refusals 1, 3, 4 and, for `Custom`, 5.
-    pub fn orbit(&mut self, orbit: Orbit<'_>, rows: &[u32], d: u32) -> Result<&[u32], Refusal> {
+    /// Refusals 1, 3, 4 and, for `Custom`, 5, and 2 for short flags.
+    pub fn orbit(&mut self, orbit: Orbit<'_>, rows: &[u32], flags: &[u8], d: u32) -> Result<&[u32], Refusal> {
         self.grow(rows);
         let (marks, output) = (&mut self.marks[..], &mut self.output[..]);
         let answer = match orbit {
-            Orbit::Vertex => slices::orbit_vertex(rows, marks, output, d),
-            Orbit::VertexLinear => slices::orbit_vertex_linear(rows, marks, output, d),
-            Orbit::Edge => slices::orbit_edge(rows, marks, output, d),
-            Orbit::Face => slices::orbit_face(rows, marks, output, d),
-            Orbit::FaceLinear => slices::orbit_face_linear(rows, marks, output, d),
-            Orbit::Volume => slices::orbit_volume(rows, marks, output, d),
-            Orbit::VolumeLinear => slices::orbit_volume_linear(rows, marks, output, d),
-            Orbit::Custom(betas) => slices::orbit_custom(rows, marks, output, betas, d),
+            Orbit::Vertex => slices::orbit_vertex(rows, marks, output, flags, d),
+            Orbit::VertexLinear => slices::orbit_vertex_linear(rows, marks, output, flags, d),
+            Orbit::Edge => slices::orbit_edge(rows, marks, output, flags, d),
+            Orbit::Face => slices::orbit_face(rows, marks, output, flags, d),
+            Orbit::FaceLinear => slices::orbit_face_linear(rows, marks, output, flags, d),
+            Orbit::Volume => slices::orbit_volume(rows, marks, output, flags, d),
+            Orbit::VolumeLinear => slices::orbit_volume_linear(rows, marks, output, flags, d),
+            Orbit::Custom(betas) => slices::orbit_custom(rows, marks, output, flags, betas, d),
         };
         let (first, count) = answer.done()?;
         written(&self.output, first, count, 1)
@@ -255,28 +257,35 @@ impl Loans {
     ///
     /// # Errors
     ///
-    /// Refusals 1, 3, 4, 6 and 7.
-    pub fn one_sew(&mut self, rows: &mut [u32], ld: u32, rd: u32) -> Result<Sewn<'_>, Refusal> {
-        self.with_plan(rows, |rows, marks, queue, plan| slices::one_sew(rows, marks, queue, plan, ld, rd))
+    /// Refusals 1, 3, 4, 6 and 7, and 2 for short flags.
+    pub fn one_sew(&mut self, rows: &mut [u32], flags: &[u8], ld: u32, rd: u32) -> Result<Sewn<'_>, Refusal> {
+        self.with_plan(rows, |rows, marks, queue, plan| slices::one_sew(rows, marks, queue, flags, plan, ld, rd))
     }
 
     /// 1-unsews `ld`.
     ///
     /// # Errors
     ///
-    /// Refusals 1, 3, 4, 8 and 9.
-    pub fn one_unsew(&mut self, rows: &mut [u32], ld: u32) -> Result<Sewn<'_>, Refusal> {
-        self.with_plan(rows, |rows, marks, queue, plan| slices::one_unsew(rows, marks, queue, plan, ld))
+    /// Refusals 1, 3, 4, 8 and 9, and 2 for short flags.
+    pub fn one_unsew(&mut self, rows: &mut [u32], flags: &[u8], ld: u32) -> Result<Sewn<'_>, Refusal> {
+        self.with_plan(rows, |rows, marks, queue, plan| slices::one_unsew(rows, marks, queue, flags, plan, ld))
     }
 
     /// 2-sews `ld` and `rd` (scope: 2-sew).
     ///
     /// # Errors
     ///
-    /// Refusals 1, 3, 4, 6, 7 and 10, and 2 for short vertices.
-    pub fn two_sew(&mut self, rows: &mut [u32], vertices: Vertices<'_>, ld: u32, rd: u32) -> Result<Sewn<'_>, Refusal> {
+    /// Refusals 1, 3, 4, 6, 7 and 10, and 2 for short flags or vertices.
+    pub fn two_sew(
+        &mut self,
+        rows: &mut [u32],
+        flags: &[u8],
+        vertices: Vertices<'_>,
+        ld: u32,
+        rd: u32,
+    ) -> Result<Sewn<'_>, Refusal> {
         self.with_plan(rows, |rows, marks, queue, plan| {
-            slices::two_sew(rows, marks, queue, vertices.marks, vertices.coordinates, plan, ld, rd)
+            slices::two_sew(rows, marks, queue, flags, vertices.marks, vertices.coordinates, plan, ld, rd)
         })
     }
 
@@ -284,17 +293,17 @@ impl Loans {
     ///
     /// # Errors
     ///
-    /// Refusals 1, 3, 4 and 8.
-    pub fn two_unsew(&mut self, rows: &mut [u32], ld: u32) -> Result<Sewn<'_>, Refusal> {
-        self.with_plan(rows, |rows, marks, queue, plan| slices::two_unsew(rows, marks, queue, plan, ld))
+    /// Refusals 1, 3, 4 and 8, and 2 for short flags.
+    pub fn two_unsew(&mut self, rows: &mut [u32], flags: &[u8], ld: u32) -> Result<Sewn<'_>, Refusal> {
+        self.with_plan(rows, |rows, marks, queue, plan| slices::two_unsew(rows, marks, queue, flags, plan, ld))
     }
 
     /// 3-unsews the face of `ld` (scope: 3-unsew).
     ///
     /// # Errors
     ///
-    /// Refusals 1, 3, 4, 8 and 9.
-    pub fn three_unsew(&mut self, rows: &mut [u32], ld: u32) -> Result<Sewn<'_>, Refusal> {
-        self.with_plan(rows, |rows, marks, queue, plan| slices::three_unsew(rows, marks, queue, plan, ld))
+    /// Refusals 1, 3, 4, 8 and 9, and 2 for short flags.
+    pub fn three_unsew(&mut self, rows: &mut [u32], flags: &[u8], ld: u32) -> Result<Sewn<'_>, Refusal> {
+        self.with_plan(rows, |rows, marks, queue, plan| slices::three_unsew(rows, marks, queue, flags, plan, ld))
     }
 }

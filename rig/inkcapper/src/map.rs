@@ -1,4 +1,7 @@
-//! The calls on rows alone, with answers as Rust has them: a dart, a yes or no, or a refusal.
+//! The calls on rows and flags alone, with answers as Rust has them: a dart, a yes or no, or a refusal.
+//!
+//! A map is its rows and its flags, of which one that is not 0 says that the dart is unused; such a dart has no
+//! image. The reads ask for the rows alone.
 
 use crate::answer::{Answer, Refusal};
 use crate::slices;
@@ -39,16 +42,16 @@ pub fn is_free(rows: &[u32], d: u32) -> Result<bool, Refusal> {
 ///
 /// # Errors
 ///
-/// Refusals 1 and 3.
-pub fn check(rows: &[u32]) -> Result<(), Refusal> {
-    dart(slices::check_map(rows)).map(|_| ())
+/// Refusals 1, 2 and 3.
+pub fn check(rows: &[u32], flags: &[u8]) -> Result<(), Refusal> {
+    dart(slices::check_map(rows, flags)).map(|_| ())
 }
 
 macro_rules! links {
     ($($(#[$doc:meta])* $name:ident;)*) => { $(
         $(#[$doc])*
-        pub fn $name(rows: &mut [u32], ld: u32, rd: u32) -> Result<(), Refusal> {
-            dart(slices::$name(rows, ld, rd)).map(|_| ())
+        pub fn $name(rows: &mut [u32], flags: &[u8], ld: u32, rd: u32) -> Result<(), Refusal> {
+            dart(slices::$name(rows, flags, ld, rd)).map(|_| ())
         }
     )* };
 }
@@ -58,27 +61,27 @@ links! {
     ///
     /// # Errors
     ///
-    /// Refusals 1, 3, 4, 6 and 7.
+    /// Refusals 1, 2, 3, 4, 6 and 7.
     one_link;
     /// Makes `ld` and `rd` each other's beta 2 image.
     ///
     /// # Errors
     ///
-    /// Refusals 1, 3, 4, 6 and 7.
+    /// Refusals 1, 2, 3, 4, 6 and 7.
     two_link;
     /// Makes the darts of the faces of `ld` and `rd` each other's beta 3 images, pair by pair.
     ///
     /// # Errors
     ///
-    /// Refusals 1, 3, 4, 6, 7 and 9.
+    /// Refusals 1, 2, 3, 4, 6, 7 and 9.
     three_link;
 }
 
 macro_rules! unlinks {
     ($($(#[$doc:meta])* $name:ident;)*) => { $(
         $(#[$doc])*
-        pub fn $name(rows: &mut [u32], ld: u32) -> Result<u32, Refusal> {
-            dart(slices::$name(rows, ld))
+        pub fn $name(rows: &mut [u32], flags: &[u8], ld: u32) -> Result<u32, Refusal> {
+            dart(slices::$name(rows, flags, ld))
         }
     )* };
 }
@@ -88,18 +91,18 @@ unlinks! {
     ///
     /// # Errors
     ///
-    /// Refusals 1, 3, 4 and 8.
+    /// Refusals 1, 2, 3, 4 and 8.
     one_unlink;
     /// Takes the beta 2 image of `ld` away and gives it back.
     ///
     /// # Errors
     ///
-    /// Refusals 1, 3, 4 and 8.
+    /// Refusals 1, 2, 3, 4 and 8.
     two_unlink;
     /// Takes the beta 3 images of the face of `ld` away and gives back that of `ld`.
     ///
     /// # Errors
     ///
-    /// Refusals 1, 3, 4, 8 and 9.
+    /// Refusals 1, 2, 3, 4, 8 and 9.
     three_unlink;
 }

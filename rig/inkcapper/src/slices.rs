@@ -3,6 +3,12 @@
 //! Every slice may have any length; a length that does not do is a refusal and never undefined. Rust's
 //! borrows keep the slices apart, which is the one duty that a C caller has to see to.
 
+mod cells;
+mod images;
+
+pub use cells::*;
+pub use images::*;
+
 use crate::answer::Answer;
 use crate::ffi;
 
@@ -40,26 +46,30 @@ pub fn is_free(rows: &[u32], d: u32) -> Answer {
     ask(|values| unsafe { ffi::inkcapper_is_free(rows.as_ptr(), rows.len(), d, values) })
 }
 
-/// The map test alone: whether the rows are a well-formed map.
+/// The map test alone: whether rows and flags are a well-formed map.
 ///
 /// ```
 /// # #[cfg(not(feature = "linked"))] extern crate c_names;
 /// use inkcapper::{Answer, Refusal, slices};
-/// assert_eq!(slices::check_map(&[0, 0, 0, 0, 1, 1, 0, 0]), Answer::Done { first: 0, count: 0 });
-/// // beta 2 may not fix a dart
-/// assert_eq!(slices::check_map(&[0, 0, 0, 0, 1, 1, 1, 0]), Answer::Refused(Refusal::NotAMap { beta: 2, dart: 1 }));
+/// let refused = |beta| Answer::Refused(Refusal::NotAMap { beta, dart: 1 });
+/// let rows = [0, 0, 0, 0, 1, 1, 0, 0];
+/// assert_eq!(slices::check_map(&rows, &[0, 0]), Answer::Done { first: 0, count: 0 });
+/// assert_eq!(slices::check_map(&rows, &[0, 1]), refused(4)); // an unused dart is free
+/// assert_eq!(slices::check_map(&[0, 0, 0, 0, 1, 1, 1, 0], &[0, 1]), refused(2)); // beta 2 may not fix a dart
 /// ```
-pub fn check_map(rows: &[u32]) -> Answer {
-    // SAFETY: as in `beta`.
-    ask(|values| unsafe { ffi::inkcapper_check_map(rows.as_ptr(), rows.len(), values) })
+pub fn check_map(rows: &[u32], flags: &[u8]) -> Answer {
+    // SAFETY: pointers and lengths of live slices; the place for the values is live too.
+    ask(|values| unsafe { ffi::inkcapper_check_map(rows.as_ptr(), rows.len(), flags.as_ptr(), flags.len(), values) })
 }
 
 macro_rules! links {
     ($($(#[$doc:meta])* $name:ident, $c:ident ($($dart:ident),*);)*) => { $(
         $(#[$doc])*
-        pub fn $name(rows: &mut [u32], $($dart: u32),*) -> Answer {
-            // SAFETY: pointer and length of one live slice that nobody else holds.
-            ask(|values| unsafe { ffi::$c(rows.as_mut_ptr(), rows.len(), $($dart,)* values) })
+        pub fn $name(rows: &mut [u32], flags: &[u8], $($dart: u32),*) -> Answer {
+            // SAFETY: pointers and lengths of live slices; the one written is held by nobody else.
+            ask(|values| unsafe {
+                ffi::$c(rows.as_mut_ptr(), rows.len(), flags.as_ptr(), flags.len(), $($dart,)* values)
+            })
         }
     )* };
 }
@@ -74,10 +84,12 @@ links! {
     /// ```
     /// # #[cfg(not(feature = "linked"))] extern crate c_names;
     /// use inkcapper::{Answer, Refusal, slices};
-    /// let mut rows = [0; 12]; // two free darts
-    /// let refused = slices::three_link(&mut rows, 1, 1);
+    /// let (mut rows, flags) = ([0; 16], [0, 0, 0, 1]); // two free darts, and one that is unused
+    /// let refused = slices::three_link(&mut rows, &flags, 1, 1);
     /// assert_eq!(refused, Answer::Refused(Refusal::NonFreeImage { i: 3, l: 1, r: 1 }));
-    /// assert_eq!(slices::three_link(&mut rows, 1, 2), Answer::Done { first: 0, count: 0 });
+    /// let refused = slices::three_link(&mut rows, &flags, 1, 3);
+    /// assert_eq!(refused, Answer::Refused(Refusal::BadDart { argument: 2 }));
+    /// assert_eq!(slices::three_link(&mut rows, &flags, 1, 2), Answer::Done { first: 0, count: 0 });
     /// assert_eq!(slices::beta(&rows, 3, 2), Answer::Done { first: 1, count: 0 });
     /// ```
     three_link, inkcapper_three_link (ld, rd);
@@ -92,12 +104,14 @@ links! {
 macro_rules! sews {
     ($($(#[$doc:meta])* $name:ident, $c:ident ($($dart:ident),*);)*) => { $(
         $(#[$doc])*
-        pub fn $name(rows: &mut [u32], marks: &mut [u8], queue: &mut [u32], plan: &mut [u32], $($dart: u32),*) -> Answer {
-            // SAFETY: pointers and lengths of live slices that nobody else holds.
+        pub fn $name(
+            rows: &mut [u32], marks: &mut [u8], queue: &mut [u32], flags: &[u8], plan: &mut [u32], $($dart: u32),*
+        ) -> Answer {
+            // SAFETY: pointers and lengths of live slices; those written are held by nobody else.
             ask(|values| unsafe {
                 ffi::$c(
                     rows.as_mut_ptr(), rows.len(), marks.as_mut_ptr(), marks.len(), queue.as_mut_ptr(), queue.len(),
-                    plan.as_mut_ptr(), plan.len(), $($dart,)* values,
+                    flags.as_ptr(), flags.len(), plan.as_mut_ptr(), plan.len(), $($dart,)* values,
                 )
             })
         }
@@ -116,10 +130,10 @@ sews! {
     /// ```
     /// # #[cfg(not(feature = "linked"))] extern crate c_names;
     /// use inkcapper::{Answer, slices};
-    /// let mut rows = [0; 12];
-    /// slices::three_link(&mut rows, 1, 2);
+    /// let (mut rows, flags) = ([0; 12], [0; 3]);
+    /// slices::three_link(&mut rows, &flags, 1, 2);
     /// let (mut marks, mut queue, mut plan) = ([0; 3], [0; 3], [0; 16]);
-    /// let answer = slices::three_unsew(&mut rows, &mut marks, &mut queue, &mut plan, 1);
+    /// let answer = slices::three_unsew(&mut rows, &mut marks, &mut queue, &flags, &mut plan, 1);
     /// assert_eq!(answer, Answer::Done { first: 2, count: 4 });
     /// assert_eq!(plan, [13, 1, 2, 1, 12, 1, 2, 1, 11, 0, 2, 0, 11, 1, 0, 0]);
     /// ```
@@ -132,6 +146,7 @@ pub fn two_sew(
     rows: &mut [u32],
     marks: &mut [u8],
     queue: &mut [u32],
+    flags: &[u8],
     vertex_marks: &[u8],
     coordinates: &[f64],
     plan: &mut [u32],
@@ -147,6 +162,8 @@ pub fn two_sew(
             marks.len(),
             queue.as_mut_ptr(),
             queue.len(),
+            flags.as_ptr(),
+            flags.len(),
             vertex_marks.as_ptr(),
             vertex_marks.len(),
             coordinates.as_ptr(),
@@ -170,8 +187,10 @@ pub fn two_sew(
 /// # #[cfg(not(feature = "linked"))] extern crate c_names;
 /// use inkcapper::{Answer, Refusal, slices};
 /// let (mut rows, mut marks, mut queue, mut output, mut plan) = ([0; 12], [0; 3], [0; 3], [0; 15], [0; 16]);
+/// let (flags, vertex_marks, coordinates) = ([0; 3], [0; 3], [0.0; 9]); // no dart unused, no point
 /// let mut run = |list: &[u32]| {
-///     slices::commands(&mut rows, &mut marks, &mut queue, &mut output, &[0; 3], &[0.0; 9], &mut plan, list)
+///     let (rows, marks, queue, output, plan) = (&mut rows, &mut marks, &mut queue, &mut output, &mut plan);
+///     slices::commands(rows, marks, queue, output, &flags, &vertex_marks, &coordinates, plan, list)
 /// };
 /// assert_eq!(run(&[3, 1]), Answer::Refused(Refusal::BadCommand { operation: 0 }));
 /// // a 3-link, the same again, a 3-unsew, whose second dart is not looked at
@@ -185,6 +204,7 @@ pub fn commands(
     marks: &mut [u8],
     queue: &mut [u32],
     output: &mut [u32],
+    flags: &[u8],
     vertex_marks: &[u8],
     coordinates: &[f64],
     plan: &mut [u32],
@@ -201,6 +221,8 @@ pub fn commands(
             queue.len(),
             output.as_mut_ptr(),
             output.len(),
+            flags.as_ptr(),
+            flags.len(),
             vertex_marks.as_ptr(),
             vertex_marks.len(),
             coordinates.as_ptr(),
@@ -209,176 +231,6 @@ pub fn commands(
             plan.len(),
             commands.as_ptr(),
             commands.len(),
-            values,
-        )
-    })
-}
-
-macro_rules! identifiers {
-    ($($(#[$doc:meta])* $name:ident, $c:ident;)*) => { $(
-        $(#[$doc])*
-        pub fn $name(rows: &[u32], marks: &mut [u8], queue: &mut [u32], d: u32) -> Answer {
-            // SAFETY: pointers and lengths of live slices; those written are held by nobody else.
-            ask(|values| unsafe {
-                ffi::$c(
-                    rows.as_ptr(), rows.len(), marks.as_mut_ptr(), marks.len(), queue.as_mut_ptr(), queue.len(), d, values,
-                )
-            })
-        }
-    )* };
-}
-
-identifiers! {
-    /// The least dart of the vertex of `d`.
-    vertex_id, inkcapper_vertex_id;
-    /// The least dart of the edge of `d`.
-    edge_id, inkcapper_edge_id;
-    /// The face of `d` as honeycomb's `face_id` names it.
-    face_id, inkcapper_face_id;
-    /// The least dart of the volume of `d`.
-    volume_id, inkcapper_volume_id;
-}
-
-macro_rules! orbits {
-    ($($(#[$doc:meta])* $name:ident, $c:ident;)*) => { $(
-        $(#[$doc])*
-        pub fn $name(rows: &[u32], marks: &mut [u8], output: &mut [u32], d: u32) -> Answer {
-            // SAFETY: pointers and lengths of live slices; those written are held by nobody else.
-            ask(|values| unsafe {
-                ffi::$c(
-                    rows.as_ptr(), rows.len(), marks.as_mut_ptr(), marks.len(), output.as_mut_ptr(), output.len(), d, values,
-                )
-            })
-        }
-    )* };
-}
-
-orbits! {
-    /// The darts of the vertex of `d`, first found first.
-    orbit_vertex, inkcapper_orbit_vertex;
-    /// As `orbit_vertex`, without beta 0.
-    orbit_vertex_linear, inkcapper_orbit_vertex_linear;
-    /// The darts of the edge of `d`, first found first.
-    orbit_edge, inkcapper_orbit_edge;
-    /// The darts of the face of `d`, first found first.
-    ///
-    /// ```
-    /// # #[cfg(not(feature = "linked"))] extern crate c_names;
-    /// use inkcapper::{Answer, slices};
-    /// let triangle = [0, 0, 0, 0, 3, 2, 0, 0, 1, 3, 0, 0, 2, 1, 0, 0];
-    /// let (mut marks, mut output) = ([0; 4], [0; 4]);
-    /// let answer = slices::orbit_face(&triangle, &mut marks, &mut output, 2);
-    /// assert_eq!(answer, Answer::Done { first: 0, count: 3 });
-    /// assert_eq!(output[..3], [2, 3, 1]);
-    /// ```
-    orbit_face, inkcapper_orbit_face;
-    /// As `orbit_face`, without beta 0.
-    orbit_face_linear, inkcapper_orbit_face_linear;
-    /// The darts of the volume of `d`, first found first.
-    orbit_volume, inkcapper_orbit_volume;
-    /// As `orbit_volume`, without beta 0.
-    orbit_volume_linear, inkcapper_orbit_volume_linear;
-}
-
-/// The darts that the listed betas reach from `d`, first found first.
-pub fn orbit_custom(rows: &[u32], marks: &mut [u8], output: &mut [u32], betas: &[u8], d: u32) -> Answer {
-    // SAFETY: pointers and lengths of live slices; those written are held by nobody else.
-    ask(|values| unsafe {
-        ffi::inkcapper_orbit_custom(
-            rows.as_ptr(),
-            rows.len(),
-            marks.as_mut_ptr(),
-            marks.len(),
-            output.as_mut_ptr(),
-            output.len(),
-            betas.as_ptr(),
-            betas.len(),
-            d,
-            values,
-        )
-    })
-}
-
-macro_rules! lists {
-    ($($(#[$doc:meta])* $name:ident, $c:ident;)*) => { $(
-        $(#[$doc])*
-        pub fn $name(rows: &[u32], marks: &mut [u8], queue: &mut [u32], output: &mut [u32], flags: &[u8]) -> Answer {
-            // SAFETY: pointers and lengths of live slices; those written are held by nobody else.
-            ask(|values| unsafe {
-                ffi::$c(
-                    rows.as_ptr(), rows.len(), marks.as_mut_ptr(), marks.len(), queue.as_mut_ptr(), queue.len(),
-                    output.as_mut_ptr(), output.len(), flags.as_ptr(), flags.len(), values,
-                )
-            })
-        }
-    )* };
-}
-
-lists! {
-    /// The vertices of the used darts, ascending.
-    list_vertices, inkcapper_list_vertices;
-    /// The edges of the used darts, ascending.
-    list_edges, inkcapper_list_edges;
-    /// The faces of the used darts, ascending, as honeycomb's `iter_faces` has them.
-    list_faces, inkcapper_list_faces;
-    /// The volumes of the used darts, ascending.
-    list_volumes, inkcapper_list_volumes;
-}
-
-/// Reads a stored image of form 1.
-pub fn read_image(
-    bytes: &[u8],
-    flags: &mut [u8],
-    vertex_marks: &mut [u8],
-    coordinates: &mut [f64],
-    rows: &mut [u32],
-) -> Answer {
-    // SAFETY: pointers and lengths of live slices; those written are held by nobody else.
-    ask(|values| unsafe {
-        ffi::inkcapper_read_image(
-            bytes.as_ptr(),
-            bytes.len(),
-            flags.as_mut_ptr(),
-            flags.len(),
-            vertex_marks.as_mut_ptr(),
-            vertex_marks.len(),
-            coordinates.as_mut_ptr(),
-            coordinates.len(),
-            rows.as_mut_ptr(),
-            rows.len(),
-            values,
-        )
-    })
-}
-
-/// Writes a stored image of form 1 from the start of `bytes` and no further.
-///
-/// ```
-/// # #[cfg(not(feature = "linked"))] extern crate c_names;
-/// use inkcapper::{Answer, Refusal, slices};
-/// let triangle = [0, 0, 0, 0, 3, 2, 0, 0, 1, 3, 0, 0, 2, 1, 0, 0];
-/// let (flags, vertex_marks, coordinates) = ([0; 4], [0; 4], [0.0; 12]); // no dart unused, no point
-/// let write = |bytes: &mut [u8]| slices::write_image(&triangle, &flags, &vertex_marks, &coordinates, bytes);
-/// assert_eq!(write(&mut [0; 95]), Answer::Refused(Refusal::ImageRoom { bytes: 96 }));
-/// let mut bytes = [7; 100];
-/// assert_eq!(write(&mut bytes), Answer::Done { first: 0, count: 96 });
-/// assert_eq!(bytes[..12], [1, 0, 0, 0, 96, 0, 0, 0, 4, 0, 0, 0]); // form 1, 96 bytes, 4 darts
-/// assert_eq!(bytes[96..], [7; 4]);
-/// ```
-pub fn write_image(rows: &[u32], flags: &[u8], vertex_marks: &[u8], coordinates: &[f64], bytes: &mut [u8]) -> Answer {
-    // SAFETY: pointers and lengths of live slices; the one written is held by nobody else.
-    ask(|values| unsafe {
-        ffi::inkcapper_write_image(
-            rows.as_ptr(),
-            rows.len(),
-            flags.as_ptr(),
-            flags.len(),
-            vertex_marks.as_ptr(),
-            vertex_marks.len(),
-            coordinates.as_ptr(),
-            coordinates.len(),
-            bytes.as_mut_ptr(),
-            bytes.len(),
             values,
         )
     })

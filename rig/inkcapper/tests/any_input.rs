@@ -32,27 +32,27 @@ fn nothing_panics() {
             rows = vec![0; 4 * numbers.below(6) as usize];
         }
         let (d, e) = (numbers.dart(), numbers.dart());
-        let bytes: Vec<u8> = numbers.list(30).iter().map(|&w| w as u8).collect();
+        let [bytes, flags] = [1, 3].map(|by| numbers.list(30).iter().map(|&w| w as u8 / by).collect::<Vec<u8>>());
         let points: Vec<f64> = numbers.list(20).iter().map(|&w| f64::from(w) / 0.0).collect();
         let vertices = Vertices { marks: &bytes, coordinates: &points };
         let refusal = match numbers.below(12) {
-            0 => loans.identifier(Cell::Vertex, &rows, d).err(),
-            1 => loans.identifier(Cell::Face, &rows, d).err(),
-            2 => loans.orbit(Orbit::Custom(&bytes), &rows, d).err(),
-            3 => loans.list(Cell::Volume, &rows, &bytes).err(),
-            4 => loans.one_sew(&mut rows, d, e).err(),
-            5 => loans.one_unsew(&mut rows, d).err(),
-            6 => loans.two_sew(&mut rows, vertices, d, e).err(),
-            7 => loans.two_unsew(&mut rows, d).err(),
-            8 => loans.three_unsew(&mut rows, d).err(),
-            9 => write_map(&rows, &bytes, vertices).err(),
+            0 => loans.identifier(Cell::Vertex, &rows, &flags, d).err(),
+            1 => loans.identifier(Cell::Face, &rows, &flags, d).err(),
+            2 => loans.orbit(Orbit::Custom(&bytes), &rows, &flags, d).err(),
+            3 => loans.list(Cell::Volume, &rows, &flags).err(),
+            4 => loans.one_sew(&mut rows, &flags, d, e).err(),
+            5 => loans.one_unsew(&mut rows, &flags, d).err(),
+            6 => loans.two_sew(&mut rows, &flags, vertices, d, e).err(),
+            7 => loans.two_unsew(&mut rows, &flags, d).err(),
+            8 => loans.three_unsew(&mut rows, &flags, d).err(),
+            9 => write_map(&rows, &flags, vertices).err(),
             10 => {
                 let list = [
                     Command::ThreeLink { ld: d, rd: e },
                     Command::TwoSew { ld: e, rd: d },
                     Command::ThreeUnsew { ld: d },
                 ];
-                let answers = loans.commands(&mut rows, vertices, &list[..numbers.below(4) as usize]);
+                let answers = loans.commands(&mut rows, &flags, vertices, &list[..numbers.below(4) as usize]);
                 answers.and_then(|mut answers| answers.try_for_each(|answer| answer.map(|_| ()))).err()
             }
             _ => read_image(&bytes).err(),

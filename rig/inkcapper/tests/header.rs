@@ -1,9 +1,12 @@
 //! The C header, the Rust declarations and the exported functions of the crate `inkcapper` say the same:
 //! the same functions, and for each parameters of the same types in the same order; header and Rust
-//! declarations have the same names for them too.
+//! declarations have the same names for them too. Header and crate have the same version.
 
 use std::collections::BTreeMap;
 use std::path::{Path, PathBuf};
+
+#[cfg(not(feature = "linked"))]
+extern crate c_names;
 
 type Functions = BTreeMap<String, Vec<(String, String)>>;
 
@@ -107,8 +110,21 @@ fn repository() -> PathBuf {
     Path::new(env!("CARGO_MANIFEST_DIR")).join("../..")
 }
 
+fn header_text() -> String {
+    std::fs::read_to_string(repository().join("include/inkcapper.h")).expect("include/inkcapper.h")
+}
+
 fn header() -> Functions {
-    of_header(&std::fs::read_to_string(repository().join("include/inkcapper.h")).expect("include/inkcapper.h"))
+    of_header(&header_text())
+}
+
+#[test]
+fn header_and_crate_have_one_version() {
+    let text = header_text();
+    let (_, behind) = text.split_once("#define INKCAPPER_VERSION ").expect("a version");
+    let number = behind.lines().next().and_then(|number| number.parse().ok());
+    assert_eq!(number, Some(inkcapper::VERSION));
+    assert_eq!(env!("CARGO_PKG_VERSION"), format!("0.{}.0", inkcapper::VERSION));
 }
 
 #[test]

@@ -41,13 +41,14 @@ fn some_image(seed: u64) -> Image {
     let n = 1 + below(40);
     let mut image =
         Image { rows: vec![0; 4 * n], flags: vec![0; n], vertex_marks: vec![0; n], coordinates: vec![0.0; 3 * n] };
+    // an unused dart stays free: links of it are refused
+    image.flags[1..].fill_with(|| (below(4) == 0) as u8);
     for _ in 0..2 * n {
         let link = [map::one_link, map::two_link, map::three_link][below(3)];
         // one that is refused is left out
-        let _ = link(&mut image.rows, below(n) as u32, below(n) as u32);
+        let _ = link(&mut image.rows, &image.flags, below(n) as u32, below(n) as u32);
     }
     for d in 1..n {
-        image.flags[d] = below(2) as u8;
         image.vertex_marks[d] = below(2) as u8;
         if image.vertex_marks[d] == 1 {
             image.coordinates[3 * d..3 * d + 3].fill_with(|| below(9) as f64 / 4.0 - 1.0);
@@ -72,7 +73,9 @@ fn refusals() {
     image.coordinates[14] = f64::NAN;
     image.rows[5] = 5;
     assert_eq!(write_image(&image), Err(Refusal::NotAMap { beta: 1, dart: 1 }));
-    image.rows[5] = 0;
+    (image.rows[4], image.rows[5]) = (1, 1);
+    assert_eq!(write_image(&image), Err(Refusal::NotAMap { beta: 4, dart: 1 }));
+    (image.rows[4], image.rows[5]) = (0, 0);
     assert_eq!(write_image(&image), Err(Refusal::BadImage { part: 7 }));
     image.flags[0] = 0;
     assert_eq!(write_image(&image), Err(Refusal::BadImage { part: 8 }));

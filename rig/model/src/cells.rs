@@ -119,24 +119,24 @@ pub(crate) fn leave_scratch(n: usize, marks: &mut [u8], queue: &mut [u32]) {
     queue[..n].fill(0);
 }
 
-/// The identifier of the cell of `d`.
-pub fn identifier(cell: Cell, rows: &[u32], marks: &mut [u8], queue: &mut [u32], d: u32) -> Answer {
+/// The identifier of the cell of `d`, which may be unused: it is then alone in its cell.
+pub fn identifier(cell: Cell, rows: &[u32], marks: &mut [u8], queue: &mut [u32], flags: &[u8], d: u32) -> Answer {
     answer((|| {
         let n = size(rows)?;
-        loans(&[(1, marks.len(), n), (2, queue.len(), n)])?;
-        map(rows)?;
+        loans(&[(1, marks.len(), n), (2, queue.len(), n), (4, flags.len(), n)])?;
+        map(rows, flags)?;
         darts(n, &[d])?;
         leave_scratch(n, marks, queue);
         Ok(done(identifier_of(rows, cell, d), 0))
     })())
 }
 
-/// The darts of an orbit of `d`, written to the start of `output`.
-pub fn orbit(orbit: Orbit<'_>, rows: &[u32], marks: &mut [u8], output: &mut [u32], d: u32) -> Answer {
+/// The darts of an orbit of `d`, which may be unused, written to the start of `output`.
+pub fn orbit(orbit: Orbit<'_>, rows: &[u32], marks: &mut [u8], output: &mut [u32], flags: &[u8], d: u32) -> Answer {
     answer((|| {
         let n = size(rows)?;
-        loans(&[(1, marks.len(), n), (3, output.len(), n)])?;
-        map(rows)?;
+        loans(&[(1, marks.len(), n), (3, output.len(), n), (4, flags.len(), n)])?;
+        map(rows, flags)?;
         darts(n, &[d])?;
         if let Orbit::Custom(betas) = orbit {
             // the first number above 3 is the one named
@@ -159,7 +159,7 @@ pub fn list(cell: Cell, rows: &[u32], marks: &mut [u8], queue: &mut [u32], outpu
     answer((|| -> Step<Answer> {
         let n = size(rows)?;
         loans(&[(1, marks.len(), n), (2, queue.len(), n), (3, output.len(), n), (4, flags.len(), n)])?;
-        map(rows)?;
+        map(rows, flags)?;
         leave_scratch(n, marks, queue);
         let list = list_of(rows, cell, flags);
         output[..list.len()].copy_from_slice(&list);

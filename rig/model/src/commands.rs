@@ -8,6 +8,7 @@ struct Lent<'a> {
     rows: &'a mut [u32],
     marks: &'a mut [u8],
     queue: &'a mut [u32],
+    flags: &'a [u8],
     vertex_marks: &'a [u8],
     coordinates: &'a [f64],
 }
@@ -15,21 +16,36 @@ struct Lent<'a> {
 /// One command, an operation and two darts, as the call that it stands for. An unlink or an unsew has one
 /// dart, and the second number is not looked at.
 fn command(lent: &mut Lent<'_>, plan: &mut [u32], [operation, ld, rd]: [u32; 3]) -> Answer {
-    let Lent { rows, marks, queue, vertex_marks, coordinates } = lent;
+    let Lent { rows, marks, queue, flags, vertex_marks, coordinates } = lent;
     match operation {
-        1 => links::one_link(rows, ld, rd),
-        2 => links::two_link(rows, ld, rd),
-        3 => links::three_link(rows, ld, rd),
-        4 => sews::one_sew(rows, marks, queue, plan, ld, rd),
-        5 => sews::two_sew(rows, marks, queue, vertex_marks, coordinates, plan, ld, rd),
-        6 => links::one_unlink(rows, ld),
-        7 => links::two_unlink(rows, ld),
-        8 => links::three_unlink(rows, ld),
-        9 => sews::one_unsew(rows, marks, queue, plan, ld),
-        10 => sews::two_unsew(rows, marks, queue, plan, ld),
-        11 => sews::three_unsew(rows, marks, queue, plan, ld),
+        1 => links::one_link(rows, flags, ld, rd),
+        2 => links::two_link(rows, flags, ld, rd),
+        3 => links::three_link(rows, flags, ld, rd),
+        4 => sews::one_sew(rows, marks, queue, flags, plan, ld, rd),
+        5 => sews::two_sew(rows, marks, queue, flags, vertex_marks, coordinates, plan, ld, rd),
+        6 => links::one_unlink(rows, flags, ld),
+        7 => links::two_unlink(rows, flags, ld),
+        8 => links::three_unlink(rows, flags, ld),
+        9 => sews::one_unsew(rows, marks, queue, flags, plan, ld),
+        10 => sews::two_unsew(rows, marks, queue, flags, plan, ld),
+        11 => sews::three_unsew(rows, marks, queue, flags, plan, ld),
         _ => (13, [u64::from(operation), 0, 0]),
     }
+}
+
+/// The commands in turn; gives the entries of the plan that they wrote.
+fn in_turn(mut lent: Lent<'_>, output: &mut [u32], plan: &mut [u32], list: &[u32]) -> usize {
+    let mut written = 0;
+    for (numbers, place) in list.chunks_exact(3).zip(output.chunks_exact_mut(5)) {
+        let rest = &mut plan[4 * written..];
+        let (number, [first, second, third]) = command(&mut lent, rest, [numbers[0], numbers[1], numbers[2]]);
+        // of a call that is done the second value is the count, which has a place of its own here
+        let (values, entries) = if number == 0 { ([first, 0, 0], second) } else { ([first, second, third], 0) };
+        let values = values.map(|value| u32::try_from(value).expect("darts, betas and counts of entries"));
+        place.copy_from_slice(&[number, values[0], values[1], values[2], entries as u32]);
+        written += entries as usize;
+    }
+    written
 }
 
 /// A list of commands, one after another, each lent what the ones before have left of the plan. A command
@@ -39,15 +55,17 @@ fn command(lent: &mut Lent<'_>, plan: &mut [u32], [operation, ld, rd]: [u32; 3])
 /// where it is done) and how many entries of the plan it wrote.
 ///
 /// ```
-/// let (mut rows, mut marks, mut queue) = ([0; 12], [9; 3], [9; 3]);
-/// let (mut output, mut plan) = ([9; 16], [9; 18]);
-/// let list = [3, 1, 2, 3, 1, 2, 11, 2, 77]; // 3-link 1 and 2, the same again, 3-unsew 2
-/// let answer =
-///     model::commands(&mut rows, &mut marks, &mut queue, &mut output, &[0; 3], &[0.0; 9], &mut plan, &list);
+/// let (mut rows, mut marks, mut queue) = ([0; 16], [9; 4], [9; 4]);
+/// let (flags, no_points, nowhere) = ([0, 0, 0, 1], [0; 4], [0.0; 12]); // dart 3 is unused
+/// let (mut output, mut plan) = ([9; 21], [9; 18]);
+/// let list = [3, 1, 2, 3, 1, 2, 11, 2, 77, 2, 1, 3]; // 3-link 1 and 2, the same again, 3-unsew 2, 2-link 1 and 3
+/// let answer = model::commands(
+///     &mut rows, &mut marks, &mut queue, &mut output, &flags, &no_points, &nowhere, &mut plan, &list,
+/// );
 /// assert_eq!(answer, (0, [0, 4, 0]));
-/// assert_eq!(output, [0, 0, 0, 0, 0, 6, 3, 1, 2, 0, 0, 1, 0, 0, 4, 9]);
+/// assert_eq!(output, [0, 0, 0, 0, 0, 6, 3, 1, 2, 0, 0, 1, 0, 0, 4, 4, 2, 0, 0, 0, 9]);
 /// assert_eq!(plan, [13, 2, 1, 1, 12, 2, 1, 1, 11, 0, 1, 0, 11, 2, 0, 0, 9, 9]);
-/// assert_eq!((rows, marks, queue), ([0; 12], [0; 3], [0; 3]));
+/// assert_eq!((rows, marks, queue), ([0; 16], [0; 4], [0; 4]));
 /// ```
 #[allow(clippy::too_many_arguments)]
 pub fn commands(
@@ -55,6 +73,7 @@ pub fn commands(
     marks: &mut [u8],
     queue: &mut [u32],
     output: &mut [u32],
+    flags: &[u8],
     vertex_marks: &[u8],
     coordinates: &[f64],
     plan: &mut [u32],
@@ -67,6 +86,7 @@ pub fn commands(
             (1, marks.len(), n),
             (2, queue.len(), n),
             (3, output.len(), 5 * whole),
+            (4, flags.len(), n),
             (5, vertex_marks.len(), n),
             (6, coordinates.len(), 3 * n),
         ])?;
@@ -75,19 +95,9 @@ pub fn commands(
             leave_scratch(n, marks, queue);
             return refused(13, &[0]);
         }
-        map(rows)?;
+        map(rows, flags)?;
         leave_scratch(n, marks, queue);
-        let mut lent = Lent { rows, marks, queue, vertex_marks, coordinates };
-        let mut written = 0;
-        for (numbers, place) in list.chunks_exact(3).zip(output.chunks_exact_mut(5)) {
-            let rest = &mut plan[4 * written..];
-            let (number, [first, second, third]) = command(&mut lent, rest, [numbers[0], numbers[1], numbers[2]]);
-            // of a call that is done the second value is the count, which has a place of its own here
-            let (values, entries) = if number == 0 { ([first, 0, 0], second) } else { ([first, second, third], 0) };
-            let values = values.map(|value| u32::try_from(value).expect("darts, betas and counts of entries"));
-            place.copy_from_slice(&[number, values[0], values[1], values[2], entries as u32]);
-            written += entries as usize;
-        }
-        Ok(done(0, written))
+        let lent = Lent { rows, marks, queue, flags, vertex_marks, coordinates };
+        Ok(done(0, in_turn(lent, output, plan, list)))
     })())
 }

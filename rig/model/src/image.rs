@@ -51,7 +51,7 @@ struct Image {
     vertices: Vec<(usize, [f64; 3])>,
 }
 
-/// The blocks behind a right header: flags (BadImage 7), vertices (BadImage 8), rows (NotAMap).
+/// The blocks behind a right header: flags (BadImage 7), vertices (BadImage 8), rows with the flags (NotAMap).
 fn blocks(bytes: &[u8], n: usize, v: usize) -> Step<Image> {
     let flags = bytes[28 + 16 * n..28 + 17 * n].to_vec();
     if flags[0] != 0 || flags.iter().any(|&flag| flag > 1) {
@@ -72,7 +72,7 @@ fn blocks(bytes: &[u8], n: usize, v: usize) -> Step<Image> {
         vertices.push((dart, point));
     }
     let rows: Vec<u32> = (0..4 * n).map(|place| word(bytes, 28 + 4 * place)).collect();
-    map(&rows)?;
+    map(&rows, &flags)?;
     Ok(Image { rows, flags, vertices })
 }
 
@@ -134,7 +134,7 @@ pub fn write_image(rows: &[u32], flags: &[u8], vertex_marks: &[u8], coordinates:
     answer((|| {
         let n = size(rows)?;
         loans(&[(4, flags.len(), n), (5, vertex_marks.len(), n), (6, coordinates.len(), 3 * n)])?;
-        map(rows)?;
+        map(rows, flags)?;
         if flags[0] != 0 {
             return refused(12, &[7]);
         }

@@ -12,11 +12,13 @@
 //! ```
 //! // a closed triangle 1, 2, 3: rows hold beta 0, 1, 2, 3 of each dart
 //! let mut rows = [0, 0, 0, 0, 3, 2, 0, 0, 1, 3, 0, 0, 2, 1, 0, 0];
+//! let flags = [0; 4]; // and no dart is unused
 //! assert_eq!(model::beta(&rows, 1, 3), (0, [1, 0, 0]));
 //! let (mut marks, mut output) = ([9; 4], [9; 4]);
-//! let answer = model::orbit(model::Orbit::Face, &rows, &mut marks, &mut output, 2);
+//! let answer = model::orbit(model::Orbit::Face, &rows, &mut marks, &mut output, &flags, 2);
 //! assert_eq!((answer, output), ((0, [0, 3, 0]), [2, 3, 1, 9]));
-//! assert_eq!(model::three_link(&mut rows, 1, 1), (7, [3, 1, 1]));
+//! assert_eq!(model::three_link(&mut rows, &flags, 1, 1), (7, [3, 1, 1]));
+//! assert_eq!(model::check_map(&rows, &[0, 0, 1, 0]), (3, [4, 2, 0])); // an unused dart that is linked
 //! ```
 
 mod cells;
@@ -84,45 +86,53 @@ pub(crate) fn loans(held: &[(u64, usize, usize)]) -> Step<()> {
     }
 }
 
-/// The least dart, then least beta, whose image breaks a rule, as beta and dart.
-///
-/// A place is judged by its own image: not below n; non-null in row 0; not led back; under beta 2
-/// or 3 the dart itself. A null image breaks no rule.
-pub fn first_breach(rows: &[u32]) -> Option<(u32, u32)> {
-    let n = rows.len() / 4;
-    for d in 0..n as u32 {
-        for i in 0..4 {
-            let to = image(rows, i, d);
-            if to == 0 {
-                continue;
-            }
-            if to as usize >= n || d == 0 {
-                return Some((i as u32, d));
-            }
-            let back = match i {
-                0 => image(rows, 1, to),
-                1 => image(rows, 0, to),
-                _ => image(rows, i, to),
-            };
-            if back != d || (i >= 2 && to == d) {
-                return Some((i as u32, d));
-            }
+/// Whether the image of `d` under beta `i` breaks a rule: not below n; non-null in row 0; not led back; under
+/// beta 2 or 3 the dart itself. A null image breaks none.
+fn breaks(rows: &[u32], i: usize, d: u32) -> bool {
+    let to = image(rows, i, d);
+    if to == 0 {
+        return false;
+    }
+    if to as usize >= rows.len() / 4 || d == 0 {
+        return true;
+    }
+    let back = match i {
+        0 => image(rows, 1, to),
+        1 => image(rows, 0, to),
+        _ => image(rows, i, to),
+    };
+    back != d || (i >= 2 && to == d)
+}
+
+/// The least dart, then least beta, whose image breaks a rule, as beta and dart. Behind a dart's own four images
+/// it is asked whether it is unused and yet linked, which is said as beta 4; dart 0 is not asked.
+pub fn first_breach(rows: &[u32], flags: &[u8]) -> Option<(u32, u32)> {
+    for d in 0..(rows.len() / 4) as u32 {
+        if let Some(i) = (0..4).find(|&i| breaks(rows, i, d)) {
+            return Some((i as u32, d));
+        }
+        if d > 0 && flags[d as usize] != 0 && (0..4).any(|i| image(rows, i, d) != 0) {
+            return Some((4, d));
         }
     }
     None
 }
 
-/// Refusal 3: the rows are no map.
-pub(crate) fn map(rows: &[u32]) -> Step<()> {
-    match first_breach(rows) {
+/// Refusal 3: rows and flags are no map.
+pub(crate) fn map(rows: &[u32], flags: &[u8]) -> Step<()> {
+    match first_breach(rows, flags) {
         Some((i, d)) => refused(3, &[u64::from(i), u64::from(d)]),
         None => Ok(()),
     }
 }
 
-/// The map test as a call of its own: refusals 1 and 3.
-pub fn check_map(rows: &[u32]) -> Answer {
-    answer(size(rows).and_then(|_| map(rows)).map(|()| done(0, 0)))
+/// The map test as a call of its own: refusals 1, 2 and 3.
+pub fn check_map(rows: &[u32], flags: &[u8]) -> Answer {
+    answer((|| {
+        loans(&[(4, flags.len(), size(rows)?)])?;
+        map(rows, flags)?;
+        Ok(done(0, 0))
+    })())
 }
 
 /// Refusal 4 where dart 0 is allowed: a dart not below n, named by its place among the darts.
@@ -133,9 +143,9 @@ pub(crate) fn darts(n: usize, arguments: &[u32]) -> Step<()> {
     }
 }
 
-/// Refusal 4 where dart 0 is refused too.
-pub(crate) fn real_darts(n: usize, arguments: &[u32]) -> Step<()> {
-    match arguments.iter().position(|&d| d == 0 || d as usize >= n) {
+/// Refusal 4 where dart 0 and unused darts are refused too.
+pub(crate) fn used_darts(n: usize, flags: &[u8], arguments: &[u32]) -> Step<()> {
+    match arguments.iter().position(|&d| d == 0 || d as usize >= n || flags[d as usize] != 0) {
         Some(at) => refused(4, &[at as u64 + 1]),
         None => Ok(()),
     }

@@ -1,6 +1,6 @@
 //! Links and unlinks. Each walks over the rows as written so far, on a copy.
 
-use crate::{Answer, Step, answer, done, image, map, real_darts, refused, size};
+use crate::{Answer, Step, answer, done, image, loans, map, refused, size, used_darts};
 
 /// Sets the image of `d` under beta `i`.
 fn put(rows: &mut [u32], i: usize, d: u32, to: u32) {
@@ -99,12 +99,13 @@ pub(crate) fn three_unlink_walk(rows: &mut [u32], ld: u32) -> Step<(u32, Vec<(u3
     Ok((rd, pairs))
 }
 
-/// Tests size, map and darts, then does `work` on a copy, put back if it is done.
-fn on_copy(rows: &mut [u32], arguments: &[u32], work: impl FnOnce(&mut [u32]) -> Step<Answer>) -> Answer {
+/// Tests size, flags, map and darts, then does `work` on a copy, put back if it is done.
+fn on_copy(rows: &mut [u32], flags: &[u8], arguments: &[u32], work: impl FnOnce(&mut [u32]) -> Step<Answer>) -> Answer {
     answer((|| {
         let n = size(rows)?;
-        map(rows)?;
-        real_darts(n, arguments)?;
+        loans(&[(4, flags.len(), n)])?;
+        map(rows, flags)?;
+        used_darts(n, flags, arguments)?;
         let mut copy = rows.to_vec();
         let answer = work(&mut copy)?;
         rows.copy_from_slice(&copy);
@@ -113,41 +114,41 @@ fn on_copy(rows: &mut [u32], arguments: &[u32], work: impl FnOnce(&mut [u32]) ->
 }
 
 /// 1-link: core (1, ld, rd).
-pub fn one_link(rows: &mut [u32], ld: u32, rd: u32) -> Answer {
-    on_copy(rows, &[ld, rd], |rows| link_core(rows, 1, ld, rd).map(|()| done(0, 0)))
+pub fn one_link(rows: &mut [u32], flags: &[u8], ld: u32, rd: u32) -> Answer {
+    on_copy(rows, flags, &[ld, rd], |rows| link_core(rows, 1, ld, rd).map(|()| done(0, 0)))
 }
 
 /// 2-link: core (2, ld, rd).
-pub fn two_link(rows: &mut [u32], ld: u32, rd: u32) -> Answer {
-    on_copy(rows, &[ld, rd], |rows| link_core(rows, 2, ld, rd).map(|()| done(0, 0)))
+pub fn two_link(rows: &mut [u32], flags: &[u8], ld: u32, rd: u32) -> Answer {
+    on_copy(rows, flags, &[ld, rd], |rows| link_core(rows, 2, ld, rd).map(|()| done(0, 0)))
 }
 
 /// 3-link of two faces.
-pub fn three_link(rows: &mut [u32], ld: u32, rd: u32) -> Answer {
-    on_copy(rows, &[ld, rd], |rows| three_link_walk(rows, ld, rd).map(|()| done(0, 0)))
+pub fn three_link(rows: &mut [u32], flags: &[u8], ld: u32, rd: u32) -> Answer {
+    on_copy(rows, flags, &[ld, rd], |rows| three_link_walk(rows, ld, rd).map(|()| done(0, 0)))
 }
 
 /// Core (3, ld, rd) alone, which no call offers; it is compared with the Rust's all the same.
-pub fn three_link_core(rows: &mut [u32], ld: u32, rd: u32) -> Answer {
-    on_copy(rows, &[ld, rd], |rows| link_core(rows, 3, ld, rd).map(|()| done(0, 0)))
+pub fn three_link_core(rows: &mut [u32], flags: &[u8], ld: u32, rd: u32) -> Answer {
+    on_copy(rows, flags, &[ld, rd], |rows| link_core(rows, 3, ld, rd).map(|()| done(0, 0)))
 }
 
 /// 1-unlink: returns rd.
-pub fn one_unlink(rows: &mut [u32], ld: u32) -> Answer {
-    on_copy(rows, &[ld], |rows| unlink_core(rows, 1, ld).map(|rd| done(rd, 0)))
+pub fn one_unlink(rows: &mut [u32], flags: &[u8], ld: u32) -> Answer {
+    on_copy(rows, flags, &[ld], |rows| unlink_core(rows, 1, ld).map(|rd| done(rd, 0)))
 }
 
 /// 2-unlink: returns rd.
-pub fn two_unlink(rows: &mut [u32], ld: u32) -> Answer {
-    on_copy(rows, &[ld], |rows| unlink_core(rows, 2, ld).map(|rd| done(rd, 0)))
+pub fn two_unlink(rows: &mut [u32], flags: &[u8], ld: u32) -> Answer {
+    on_copy(rows, flags, &[ld], |rows| unlink_core(rows, 2, ld).map(|rd| done(rd, 0)))
 }
 
 /// 3-unlink of two faces: returns rd.
-pub fn three_unlink(rows: &mut [u32], ld: u32) -> Answer {
-    on_copy(rows, &[ld], |rows| three_unlink_walk(rows, ld).map(|(rd, _)| done(rd, 0)))
+pub fn three_unlink(rows: &mut [u32], flags: &[u8], ld: u32) -> Answer {
+    on_copy(rows, flags, &[ld], |rows| three_unlink_walk(rows, ld).map(|(rd, _)| done(rd, 0)))
 }
 
 /// Unlink core for beta 3 alone, which no call offers; it is compared with the Rust's all the same.
-pub fn three_unlink_core(rows: &mut [u32], ld: u32) -> Answer {
-    on_copy(rows, &[ld], |rows| unlink_core(rows, 3, ld).map(|rd| done(rd, 0)))
+pub fn three_unlink_core(rows: &mut [u32], flags: &[u8], ld: u32) -> Answer {
+    on_copy(rows, flags, &[ld], |rows| unlink_core(rows, 3, ld).map(|rd| done(rd, 0)))
 }

@@ -2,7 +2,7 @@
 
 use crate::cells::{Cell, identifier_of, leave_scratch};
 use crate::links::{link_core, three_unlink_walk, unlink_core};
-use crate::{Answer, Step, answer, done, image, loans, map, real_darts, refused, size};
+use crate::{Answer, Step, answer, done, image, loans, map, refused, size, used_darts};
 
 const VERTEX_MERGE: u32 = 1;
 const EDGE_MERGE: u32 = 2;
@@ -39,18 +39,19 @@ fn split(plan: &mut Vec<[u32; 4]>, code: u32, left: u32, right: u32) {
     }
 }
 
-/// The scratch that every sew and unsew is lent.
-struct Scratch<'a> {
+/// The scratch and the flags that every sew and unsew is lent.
+struct Lent<'a> {
     marks: &'a mut [u8],
     queue: &'a mut [u32],
+    flags: &'a [u8],
 }
 
 /// Tests 1 to 4, then the work on a copy of the rows, then the room for its plan.
 ///
-/// `more` are the loans beyond marks and queue, as number, length and places for each dart.
+/// `more` are the loans beyond marks, queue and flags, as number, length and places for each dart.
 fn sew_on_copy(
     rows: &mut [u32],
-    scratch: Scratch<'_>,
+    lent: Lent<'_>,
     more: &[(u64, usize, usize)],
     plan: &mut [u32],
     arguments: &[u32],
@@ -58,12 +59,12 @@ fn sew_on_copy(
 ) -> Answer {
     answer((|| {
         let n = size(rows)?;
-        let mut held = vec![(1, scratch.marks.len(), n), (2, scratch.queue.len(), n)];
+        let mut held = vec![(1, lent.marks.len(), n), (2, lent.queue.len(), n), (4, lent.flags.len(), n)];
         held.extend(more.iter().map(|&(which, length, each)| (which, length, each * n)));
         loans(&held)?;
-        map(rows)?;
-        real_darts(n, arguments)?;
-        leave_scratch(n, scratch.marks, scratch.queue);
+        map(rows, lent.flags)?;
+        used_darts(n, lent.flags, arguments)?;
+        leave_scratch(n, lent.marks, lent.queue);
         let mut copy = rows.to_vec();
         let mut entries = Vec::new();
         let first = work(&mut copy, &mut entries)?;
@@ -79,8 +80,16 @@ fn sew_on_copy(
 }
 
 /// 1-sew. m = M(beta 3, beta 2 of ld); before linking, vl = vertex of m, vr = vertex of rd.
-pub fn one_sew(rows: &mut [u32], marks: &mut [u8], queue: &mut [u32], plan: &mut [u32], ld: u32, rd: u32) -> Answer {
-    sew_on_copy(rows, Scratch { marks, queue }, &[], plan, &[ld, rd], |rows, plan| {
+pub fn one_sew(
+    rows: &mut [u32],
+    marks: &mut [u8],
+    queue: &mut [u32],
+    flags: &[u8],
+    plan: &mut [u32],
+    ld: u32,
+    rd: u32,
+) -> Answer {
+    sew_on_copy(rows, Lent { marks, queue, flags }, &[], plan, &[ld, rd], |rows, plan| {
         let m = larger(rows, 3, 2, ld);
         let (vl, vr) = (vertex(rows, m), vertex(rows, rd));
         let (b3l, b3r) = (image(rows, 3, ld), image(rows, 3, rd));
@@ -97,8 +106,15 @@ pub fn one_sew(rows: &mut [u32], marks: &mut [u8], queue: &mut [u32], plan: &mut
 
 /// 1-unsew: unlink; if both have beta 3, beta 1 of beta 3 of rd must be beta 3 of ld, else 9, and
 /// that is unlinked too. Then the split on new identifiers.
-pub fn one_unsew(rows: &mut [u32], marks: &mut [u8], queue: &mut [u32], plan: &mut [u32], ld: u32) -> Answer {
-    sew_on_copy(rows, Scratch { marks, queue }, &[], plan, &[ld], |rows, plan| {
+pub fn one_unsew(
+    rows: &mut [u32],
+    marks: &mut [u8],
+    queue: &mut [u32],
+    flags: &[u8],
+    plan: &mut [u32],
+    ld: u32,
+) -> Answer {
+    sew_on_copy(rows, Lent { marks, queue, flags }, &[], plan, &[ld], |rows, plan| {
         let rd = unlink_core(rows, 1, ld)?;
         let (b3l, b3r) = (image(rows, 3, ld), image(rows, 3, rd));
         if b3l != 0 && b3r != 0 {
@@ -133,6 +149,7 @@ pub fn two_sew(
     rows: &mut [u32],
     marks: &mut [u8],
     queue: &mut [u32],
+    flags: &[u8],
     vertex_marks: &[u8],
     coordinates: &[f64],
     plan: &mut [u32],
@@ -140,7 +157,7 @@ pub fn two_sew(
     rd: u32,
 ) -> Answer {
     let more = [(5, vertex_marks.len(), 1), (6, coordinates.len(), 3)];
-    sew_on_copy(rows, Scratch { marks, queue }, &more, plan, &[ld, rd], |rows, plan| {
+    sew_on_copy(rows, Lent { marks, queue, flags }, &more, plan, &[ld, rd], |rows, plan| {
         let (m1, m2) = (larger(rows, 1, 3, ld), larger(rows, 1, 3, rd));
         let (el, er) = (edge(rows, ld), edge(rows, rd));
         let (vl, vm2) = (vertex(rows, ld), vertex(rows, m2));
@@ -165,8 +182,15 @@ pub fn two_sew(
 }
 
 /// 2-unsew: unlink first; the 2-sew's three as splits, on new identifiers.
-pub fn two_unsew(rows: &mut [u32], marks: &mut [u8], queue: &mut [u32], plan: &mut [u32], ld: u32) -> Answer {
-    sew_on_copy(rows, Scratch { marks, queue }, &[], plan, &[ld], |rows, plan| {
+pub fn two_unsew(
+    rows: &mut [u32],
+    marks: &mut [u8],
+    queue: &mut [u32],
+    flags: &[u8],
+    plan: &mut [u32],
+    ld: u32,
+) -> Answer {
+    sew_on_copy(rows, Lent { marks, queue, flags }, &[], plan, &[ld], |rows, plan| {
         let rd = unlink_core(rows, 2, ld)?;
         let (m1, m2) = (larger(rows, 1, 3, ld), larger(rows, 1, 3, rd));
         split(plan, EDGE_SPLIT, edge(rows, ld), edge(rows, rd));
@@ -182,8 +206,15 @@ pub fn two_unsew(rows: &mut [u32], marks: &mut [u8], queue: &mut [u32], plan: &m
 
 /// 3-unsew: 3-unlink collecting pairs in walk order. A face split, always; then for each pair its
 /// edge, its vertex at the far end and, where the chain begins, the one at the near end.
-pub fn three_unsew(rows: &mut [u32], marks: &mut [u8], queue: &mut [u32], plan: &mut [u32], ld: u32) -> Answer {
-    sew_on_copy(rows, Scratch { marks, queue }, &[], plan, &[ld], |rows, plan| {
+pub fn three_unsew(
+    rows: &mut [u32],
+    marks: &mut [u8],
+    queue: &mut [u32],
+    flags: &[u8],
+    plan: &mut [u32],
+    ld: u32,
+) -> Answer {
+    sew_on_copy(rows, Lent { marks, queue, flags }, &[], plan, &[ld], |rows, plan| {
         let (rd, pairs) = three_unlink_walk(rows, ld)?;
         let left = pairs.iter().map(|p| p.0).fold(ld, u32::min);
         let right = pairs.iter().map(|p| p.1).fold(rd, u32::min);

@@ -9,13 +9,15 @@ struct Lent {
     marks: Vec<u8>,
     queue: Vec<u32>,
     output: Vec<u32>,
+    flags: Vec<u8>,
     vertex_marks: Vec<u8>,
     coordinates: Vec<f64>,
     plan: Vec<u32>,
 }
 
 impl Lent {
-    /// Loans around these rows, without points, with room for so many entries and two words more.
+    /// Loans around these rows, with all darts used, without points, with room for so many entries and two words
+    /// more. Nobody asks for the flag of dart 0.
     fn around(rows: Vec<u32>, commands: usize, entries: usize) -> Self {
         let n = rows.len() / 4;
         Self {
@@ -23,6 +25,7 @@ impl Lent {
             marks: vec![7; n + 2],
             queue: vec![7; n + 1],
             output: vec![7; 5 * commands + 3],
+            flags: [&[9][..], &vec![0; n]].concat(),
             vertex_marks: vec![0; n + 1],
             coordinates: vec![0.0; 3 * n + 2],
             plan: vec![7; 4 * entries + 2],
@@ -30,8 +33,8 @@ impl Lent {
     }
 
     fn run(&mut self, list: &[u32]) -> Answer {
-        let Self { rows, marks, queue, output, vertex_marks, coordinates, plan } = self;
-        model::commands(rows, marks, queue, output, vertex_marks, coordinates, plan, list)
+        let Self { rows, marks, queue, output, flags, vertex_marks, coordinates, plan } = self;
+        model::commands(rows, marks, queue, output, flags, vertex_marks, coordinates, plan, list)
     }
 }
 
@@ -148,20 +151,23 @@ fn refusals_in_their_order() {
         marks: vec![7; 2],
         queue: vec![7; 2],
         output: vec![7; 9],
+        flags: vec![8, 0],
         vertex_marks: vec![1; 2],
         coordinates: vec![0.5; 8],
         plan: vec![7; 3],
     };
-    lent.rows[10] = 2;
+    (lent.rows[4], lent.rows[5], lent.rows[10]) = (1, 1, 2);
     let mut list = vec![6, 1, 0, 99, 1, 0, 3];
-    let right: [(Answer, PutRight); 8] = [
+    let right: [(Answer, PutRight); 10] = [
         ((1, [13, 0, 0]), |lent, _| lent.rows.truncate(12)),
         ((2, [1, 0, 0]), |lent, _| lent.marks.extend([7, 7])),
         ((2, [2, 0, 0]), |lent, _| lent.queue.extend([7, 7])),
         ((2, [3, 0, 0]), |lent, _| lent.output.push(7)),
+        ((2, [4, 0, 0]), |lent, _| lent.flags = vec![8, 8, 8, 0]),
         ((2, [5, 0, 0]), |lent, _| lent.vertex_marks.push(1)),
         ((2, [6, 0, 0]), |lent, _| lent.coordinates.push(0.5)),
         ((13, [0, 0, 0]), |_, list| list.truncate(6)),
+        ((3, [4, 1, 0]), |lent, _| lent.flags[1] = 0),
         ((3, [2, 2, 0]), |lent, _| lent.rows[10] = 0),
     ];
     for (refusal, put_right) in right {
@@ -176,7 +182,29 @@ fn refusals_in_their_order() {
         put_right(&mut lent, &mut list);
     }
     assert_eq!(lent.run(&list), (0, [0, 0, 0]));
-    assert_eq!(lent.output, [8, 1, 1, 0, 0, 13, 99, 0, 0, 0]);
+    assert_eq!(lent.output, [0, 1, 0, 0, 0, 13, 99, 0, 0, 0]);
+}
+
+/// An unused dart is refused like one that there is not, by the command that has it as an argument; what an
+/// unlink or unsew does not look at may be one.
+#[test]
+fn unused_darts() {
+    let mut lent = Lent::around(vec![0; 16], 8, 3);
+    lent.flags[2] = 255;
+    let list = [[1, 1, 2], [3, 2, 9], [5, 9, 2], [2, 3, 1], [7, 2, 1], [10, 1, 2], [4, 1, 3], [12, 2, 2]];
+    assert_eq!(lent.run(&list.concat()), (0, [0, 1, 0]));
+    let wanted = [
+        [4, 2, 0, 0, 0],
+        [4, 1, 0, 0, 0],
+        [4, 1, 0, 0, 0],
+        [0; 5],
+        [4, 1, 0, 0, 0],
+        [0, 3, 0, 0, 1],
+        [0; 5],
+        [13, 12, 0, 0, 0],
+    ];
+    assert_eq!(lent.output[..40], wanted.concat());
+    assert_eq!((lent.rows[5], lent.flags), (3, vec![9, 0, 255, 0, 0]));
 }
 
 #[test]

@@ -24,45 +24,48 @@ fn beta(rows: &[u32], i: usize, d: usize) -> u32 {
 
 const DONE: Answer = (0, [0, 0, 0]);
 
+/// No dart is unused; more flags than any map here has darts.
+const USED: [u8; 9] = [0; 9];
+
 #[test]
 fn links() {
-    assert_eq!(model::three_link(&mut rows(2, &[]), 1, 1), (7, [3, 1, 1]));
+    assert_eq!(model::three_link(&mut rows(2, &[]), &USED, 1, 1), (7, [3, 1, 1]));
 
     let start = rows(8, &[(&[1, 2, 3], true), (&[4, 5, 6, 7], true)]);
     let mut linked = start.clone();
-    assert_eq!(model::three_link(&mut linked, 1, 4), DONE);
+    assert_eq!(model::three_link(&mut linked, &USED, 1, 4), DONE);
     assert_eq!([1, 2, 3, 5].map(|d| beta(&linked, 3, d)), [4, 7, 6, 0]);
     let before = linked.clone();
-    assert_eq!(model::three_unlink(&mut linked, 4), (9, [4, 1, 0]));
+    assert_eq!(model::three_unlink(&mut linked, &USED, 4), (9, [4, 1, 0]));
     assert_eq!(linked, before);
-    assert_eq!(model::three_unlink(&mut linked, 1), (0, [4, 0, 0]));
+    assert_eq!(model::three_unlink(&mut linked, &USED, 1), (0, [4, 0, 0]));
     assert_eq!(linked, start);
-    assert_eq!(model::three_link(&mut linked, 4, 1), (7, [3, 7, 1]));
+    assert_eq!(model::three_link(&mut linked, &USED, 4, 1), (7, [3, 7, 1]));
 
-    assert_eq!(model::three_link(&mut rows(5, &[(&[1, 2, 3, 4], true)]), 1, 2), (6, [3, 2, 1]));
+    assert_eq!(model::three_link(&mut rows(5, &[(&[1, 2, 3, 4], true)]), &USED, 1, 2), (6, [3, 2, 1]));
     let mut open = rows(6, &[(&[1, 2], false), (&[3, 4, 5], false)]);
-    assert_eq!(model::three_link(&mut open.clone(), 5, 1), (9, [5, 1, 0]));
-    assert_eq!(model::three_link(&mut open, 1, 4), DONE);
+    assert_eq!(model::three_link(&mut open.clone(), &USED, 5, 1), (9, [5, 1, 0]));
+    assert_eq!(model::three_link(&mut open, &USED, 1, 4), DONE);
     assert_eq!([1, 2, 5].map(|d| beta(&open, 3, d)), [4, 3, 0]);
 }
 
 #[test]
 fn faces() {
     let open = rows(3, &[(&[1, 2], false)]);
-    let face = |d| model::identifier(model::Cell::Face, &open, &mut [7; 3], &mut [7; 3], d);
+    let face = |d| model::identifier(model::Cell::Face, &open, &mut [7; 3], &mut [7; 3], &USED, d);
     assert_eq!((face(2), face(1)), ((0, [2, 0, 0]), (0, [1, 0, 0])));
 }
 
 #[test]
 fn three_unsew() {
     let mut linked = rows(3, &[]);
-    assert_eq!(model::three_link(&mut linked, 1, 2), DONE);
+    assert_eq!(model::three_link(&mut linked, &USED, 1, 2), DONE);
     let mut plan = [9; 15];
     let mut short = linked.clone();
-    let answer = model::three_unsew(&mut short, &mut [7; 3], &mut [7; 3], &mut plan, 1);
+    let answer = model::three_unsew(&mut short, &mut [7; 3], &mut [7; 3], &USED, &mut plan, 1);
     assert_eq!((answer, plan, &short), ((11, [4, 0, 0]), [9; 15], &linked));
     let mut plan = [9; 17];
-    let answer = model::three_unsew(&mut linked, &mut [7; 3], &mut [7; 3], &mut plan, 1);
+    let answer = model::three_unsew(&mut linked, &mut [7; 3], &mut [7; 3], &USED, &mut plan, 1);
     assert_eq!(answer, (0, [2, 4, 0]));
     assert_eq!(plan, [13, 1, 2, 1, 12, 1, 2, 1, 11, 0, 2, 0, 11, 1, 0, 0, 9]);
 }
@@ -76,7 +79,7 @@ fn two_sew() {
         let coordinates: Vec<f64> = [o].iter().chain(&points).flatten().copied().collect();
         let (mut rows, mut plan) = (start.clone(), [9; 12]);
         let answer =
-            model::two_sew(&mut rows, &mut [7; 5], &mut [7; 5], &[0, 1, 1, 1, 1], &coordinates, &mut plan, 1, 3);
+            model::two_sew(&mut rows, &mut [7; 5], &mut [7; 5], &USED, &[0, 1, 1, 1, 1], &coordinates, &mut plan, 1, 3);
         (answer, plan)
     };
     assert_eq!(sew([o, x, x, o]), ((0, [0, 3, 0]), [2, 1, 1, 3, 1, 1, 1, 4, 1, 2, 2, 3]));
@@ -103,19 +106,19 @@ fn settled_readings() {
         rows
     };
     // walks read the rows as written so far
-    assert_eq!(model::three_link(&mut with(3, &[(1, 1, 2)]), 1, 2), (6, [3, 2, 1]));
+    assert_eq!(model::three_link(&mut with(3, &[(1, 1, 2)]), &USED, 1, 2), (6, [3, 2, 1]));
     let both = with(3, &[(1, 1, 2), (3, 1, 2)]);
-    assert_eq!(model::three_unlink(&mut both.clone(), 1), (9, [1, 2, 0]));
+    assert_eq!(model::three_unlink(&mut both.clone(), &USED, 1), (9, [1, 2, 0]));
     let (marks, queue, plan) = (&mut [0; 3], &mut [0; 3], &mut [0; 40]);
-    assert_eq!(model::three_unsew(&mut both.clone(), marks, queue, plan, 1), (9, [1, 2, 0]));
-    assert_eq!(model::one_unsew(&mut both.clone(), marks, queue, plan, 1), (9, [1, 2, 0]));
+    assert_eq!(model::three_unsew(&mut both.clone(), marks, queue, &USED, plan, 1), (9, [1, 2, 0]));
+    assert_eq!(model::one_unsew(&mut both.clone(), marks, queue, &USED, plan, 1), (9, [1, 2, 0]));
     let across = with(3, &[(3, 1, 2)]);
-    assert_eq!(model::one_sew(&mut across.clone(), marks, queue, plan, 1, 2), (6, [1, 1, 2]));
-    assert_eq!(model::three_link(&mut with(5, &[(1, 4, 1)]), 1, 2), (9, [1, 2, 0]));
+    assert_eq!(model::one_sew(&mut across.clone(), marks, queue, &USED, plan, 1, 2), (6, [1, 1, 2]));
+    assert_eq!(model::three_link(&mut with(5, &[(1, 4, 1)]), &USED, 1, 2), (9, [1, 2, 0]));
     // face_id
     let face = |rows: &[u32], d| {
         let n = rows.len() / 4;
-        model::identifier(model::Cell::Face, rows, &mut vec![0; n], &mut vec![0; n], d).1[0]
+        model::identifier(model::Cell::Face, rows, &mut vec![0; n], &mut vec![0; n], &USED, d).1[0]
     };
     assert_eq!(face(&with(4, &[(1, 3, 2), (1, 2, 1), (3, 2, 3)]), 3), 1);
     assert_eq!(face(&with(3, &[(1, 1, 2)]), 2), 2);
@@ -124,10 +127,10 @@ fn settled_readings() {
     // a 3-unsew's face split, and a plan that names a merged vertex
     let (marks, queue) = (&mut [0; 4], &mut [0; 4]);
     let mut plan = [0; 40];
-    let answer = model::three_unsew(&mut with(4, &[(1, 3, 1), (3, 2, 3)]), marks, queue, &mut plan, 2);
+    let answer = model::three_unsew(&mut with(4, &[(1, 3, 1), (3, 2, 3)]), marks, queue, &USED, &mut plan, 2);
     assert_eq!((answer.0, &plan[..4]), (0, &[13, 2, 3, 2][..]));
     let mut plan = [0; 12];
     let mut rows = with(4, &[(1, 3, 2), (3, 1, 2)]);
-    let answer = model::two_sew(&mut rows, marks, queue, &[0; 4], &[0.0; 12], &mut plan, 1, 3);
+    let answer = model::two_sew(&mut rows, marks, queue, &USED, &[0; 4], &[0.0; 12], &mut plan, 1, 3);
     assert_eq!((answer, plan), ((0, [0, 3, 0]), [2, 1, 1, 3, 1, 1, 1, 2, 1, 2, 2, 3]));
 }

@@ -14,18 +14,18 @@ pub struct Library;
 
 /// Reads, the map test, links and unlinks.
 fn on_rows(call: &Call, lent: &Fence, loans: &mut Loans) -> Option<Told> {
-    let rows = &mut loans.rows[..lent.rows];
+    let (rows, flags) = (&mut loans.rows[..lent.rows], &loans.flags[..lent.flags]);
     let answer = match *call {
         Call::Beta { i, d } => slices::beta(rows, i, d),
         Call::IsIFree { i, d } => slices::is_i_free(rows, i, d),
         Call::IsFree { d } => slices::is_free(rows, d),
-        Call::CheckMap => slices::check_map(rows),
-        Call::OneLink { ld, rd } => slices::one_link(rows, ld, rd),
-        Call::TwoLink { ld, rd } => slices::two_link(rows, ld, rd),
-        Call::ThreeLink { ld, rd } => slices::three_link(rows, ld, rd),
-        Call::OneUnlink { ld } => slices::one_unlink(rows, ld),
-        Call::TwoUnlink { ld } => slices::two_unlink(rows, ld),
-        Call::ThreeUnlink { ld } => slices::three_unlink(rows, ld),
+        Call::CheckMap => slices::check_map(rows, flags),
+        Call::OneLink { ld, rd } => slices::one_link(rows, flags, ld, rd),
+        Call::TwoLink { ld, rd } => slices::two_link(rows, flags, ld, rd),
+        Call::ThreeLink { ld, rd } => slices::three_link(rows, flags, ld, rd),
+        Call::OneUnlink { ld } => slices::one_unlink(rows, flags, ld),
+        Call::TwoUnlink { ld } => slices::two_unlink(rows, flags, ld),
+        Call::ThreeUnlink { ld } => slices::three_unlink(rows, flags, ld),
         _ => return None,
     };
     Some(answer)
@@ -33,25 +33,27 @@ fn on_rows(call: &Call, lent: &Fence, loans: &mut Loans) -> Option<Told> {
 
 /// Sews, unsews and lists of commands.
 fn with_plan(call: &Call, lent: &Fence, loans: &mut Loans) -> Option<Told> {
-    let Loans { rows, marks, queue, output, vertex_marks, coordinates, plan, commands, .. } = loans;
+    let Loans { rows, marks, queue, output, flags, vertex_marks, coordinates, plan, commands, .. } = loans;
     let (rows, marks, queue) = (&mut rows[..lent.rows], &mut marks[..lent.marks], &mut queue[..lent.queue]);
     let (vertex_marks, coordinates) = (&vertex_marks[..lent.vertex_marks], &coordinates[..lent.coordinates]);
     let (output, plan) = (&mut output[..lent.output], &mut plan[..lent.plan]);
-    let commands = &commands[..lent.commands];
+    let (flags, commands) = (&flags[..lent.flags], &commands[..lent.commands]);
     let answer = match *call {
-        Call::OneSew { ld, rd } => slices::one_sew(rows, marks, queue, plan, ld, rd),
-        Call::OneUnsew { ld } => slices::one_unsew(rows, marks, queue, plan, ld),
-        Call::TwoSew { ld, rd } => slices::two_sew(rows, marks, queue, vertex_marks, coordinates, plan, ld, rd),
-        Call::TwoUnsew { ld } => slices::two_unsew(rows, marks, queue, plan, ld),
-        Call::ThreeUnsew { ld } => slices::three_unsew(rows, marks, queue, plan, ld),
-        Call::Commands => slices::commands(rows, marks, queue, output, vertex_marks, coordinates, plan, commands),
+        Call::OneSew { ld, rd } => slices::one_sew(rows, marks, queue, flags, plan, ld, rd),
+        Call::OneUnsew { ld } => slices::one_unsew(rows, marks, queue, flags, plan, ld),
+        Call::TwoSew { ld, rd } => slices::two_sew(rows, marks, queue, flags, vertex_marks, coordinates, plan, ld, rd),
+        Call::TwoUnsew { ld } => slices::two_unsew(rows, marks, queue, flags, plan, ld),
+        Call::ThreeUnsew { ld } => slices::three_unsew(rows, marks, queue, flags, plan, ld),
+        Call::Commands => {
+            slices::commands(rows, marks, queue, output, flags, vertex_marks, coordinates, plan, commands)
+        }
         _ => return None,
     };
     Some(answer)
 }
 
 /// An orbit by its class.
-fn orbit(orbit: &Orbit, rows: &[u32], marks: &mut [u8], output: &mut [u32], d: u32) -> Told {
+fn orbit(orbit: &Orbit, rows: &[u32], marks: &mut [u8], output: &mut [u32], flags: &[u8], d: u32) -> Told {
     let call = match orbit {
         Orbit::Vertex => slices::orbit_vertex,
         Orbit::VertexLinear => slices::orbit_vertex_linear,
@@ -60,9 +62,9 @@ fn orbit(orbit: &Orbit, rows: &[u32], marks: &mut [u8], output: &mut [u32], d: u
         Orbit::FaceLinear => slices::orbit_face_linear,
         Orbit::Volume => slices::orbit_volume,
         Orbit::VolumeLinear => slices::orbit_volume_linear,
-        Orbit::Custom(betas) => return slices::orbit_custom(rows, marks, output, betas, d),
+        Orbit::Custom(betas) => return slices::orbit_custom(rows, marks, output, flags, betas, d),
     };
-    call(rows, marks, output, d)
+    call(rows, marks, output, flags, d)
 }
 
 /// Identifiers, orbits and lists.
@@ -72,11 +74,11 @@ fn on_cells(call: &Call, lent: &Fence, loans: &mut Loans) -> Option<Told> {
     let (marks, queue) = (&mut marks[..lent.marks], &mut queue[..lent.queue]);
     let output = &mut output[..lent.output];
     let answer = match *call {
-        Call::Identifier { cell: Cell::Vertex, d } => slices::vertex_id(rows, marks, queue, d),
-        Call::Identifier { cell: Cell::Edge, d } => slices::edge_id(rows, marks, queue, d),
-        Call::Identifier { cell: Cell::Face, d } => slices::face_id(rows, marks, queue, d),
-        Call::Identifier { cell: Cell::Volume, d } => slices::volume_id(rows, marks, queue, d),
-        Call::Orbit { orbit: ref by, d } => orbit(by, rows, marks, output, d),
+        Call::Identifier { cell: Cell::Vertex, d } => slices::vertex_id(rows, marks, queue, flags, d),
+        Call::Identifier { cell: Cell::Edge, d } => slices::edge_id(rows, marks, queue, flags, d),
+        Call::Identifier { cell: Cell::Face, d } => slices::face_id(rows, marks, queue, flags, d),
+        Call::Identifier { cell: Cell::Volume, d } => slices::volume_id(rows, marks, queue, flags, d),
+        Call::Orbit { orbit: ref by, d } => orbit(by, rows, marks, output, flags, d),
         Call::List { cell: Cell::Vertex } => slices::list_vertices(rows, marks, queue, output, flags),
         Call::List { cell: Cell::Edge } => slices::list_edges(rows, marks, queue, output, flags),
         Call::List { cell: Cell::Face } => slices::list_faces(rows, marks, queue, output, flags),

@@ -6,20 +6,20 @@ use crate::kernel::{Answer, Call, Kernel, Loans, Orbit};
 pub struct Model;
 
 /// Reads, the map test, links and unlinks.
-fn on_rows(call: &Call, rows: &mut [u32]) -> Option<Answer> {
+fn on_rows(call: &Call, rows: &mut [u32], flags: &[u8]) -> Option<Answer> {
     let answer = match *call {
         Call::Beta { i, d } => model::beta(rows, i, d),
         Call::IsIFree { i, d } => model::is_i_free(rows, i, d),
         Call::IsFree { d } => model::is_free(rows, d),
-        Call::CheckMap => model::check_map(rows),
-        Call::OneLink { ld, rd } => model::one_link(rows, ld, rd),
-        Call::TwoLink { ld, rd } => model::two_link(rows, ld, rd),
-        Call::ThreeLink { ld, rd } => model::three_link(rows, ld, rd),
-        Call::OneUnlink { ld } => model::one_unlink(rows, ld),
-        Call::TwoUnlink { ld } => model::two_unlink(rows, ld),
-        Call::ThreeUnlink { ld } => model::three_unlink(rows, ld),
-        Call::ThreeLinkCore { ld, rd } => model::three_link_core(rows, ld, rd),
-        Call::ThreeUnlinkCore { ld } => model::three_unlink_core(rows, ld),
+        Call::CheckMap => model::check_map(rows, flags),
+        Call::OneLink { ld, rd } => model::one_link(rows, flags, ld, rd),
+        Call::TwoLink { ld, rd } => model::two_link(rows, flags, ld, rd),
+        Call::ThreeLink { ld, rd } => model::three_link(rows, flags, ld, rd),
+        Call::OneUnlink { ld } => model::one_unlink(rows, flags, ld),
+        Call::TwoUnlink { ld } => model::two_unlink(rows, flags, ld),
+        Call::ThreeUnlink { ld } => model::three_unlink(rows, flags, ld),
+        Call::ThreeLinkCore { ld, rd } => model::three_link_core(rows, flags, ld, rd),
+        Call::ThreeUnlinkCore { ld } => model::three_unlink_core(rows, flags, ld),
         _ => return None,
     };
     Some(answer)
@@ -27,14 +27,14 @@ fn on_rows(call: &Call, rows: &mut [u32]) -> Option<Answer> {
 
 /// Sews, unsews and lists of commands.
 fn with_plan(call: &Call, loans: &mut Loans) -> Option<Answer> {
-    let Loans { rows, marks, queue, output, vertex_marks, coordinates, plan, commands, .. } = loans;
+    let Loans { rows, marks, queue, output, flags, vertex_marks, coordinates, plan, commands, .. } = loans;
     let answer = match *call {
-        Call::OneSew { ld, rd } => model::one_sew(rows, marks, queue, plan, ld, rd),
-        Call::OneUnsew { ld } => model::one_unsew(rows, marks, queue, plan, ld),
-        Call::TwoSew { ld, rd } => model::two_sew(rows, marks, queue, vertex_marks, coordinates, plan, ld, rd),
-        Call::TwoUnsew { ld } => model::two_unsew(rows, marks, queue, plan, ld),
-        Call::ThreeUnsew { ld } => model::three_unsew(rows, marks, queue, plan, ld),
-        Call::Commands => model::commands(rows, marks, queue, output, vertex_marks, coordinates, plan, commands),
+        Call::OneSew { ld, rd } => model::one_sew(rows, marks, queue, flags, plan, ld, rd),
+        Call::OneUnsew { ld } => model::one_unsew(rows, marks, queue, flags, plan, ld),
+        Call::TwoSew { ld, rd } => model::two_sew(rows, marks, queue, flags, vertex_marks, coordinates, plan, ld, rd),
+        Call::TwoUnsew { ld } => model::two_unsew(rows, marks, queue, flags, plan, ld),
+        Call::ThreeUnsew { ld } => model::three_unsew(rows, marks, queue, flags, plan, ld),
+        Call::Commands => model::commands(rows, marks, queue, output, flags, vertex_marks, coordinates, plan, commands),
         _ => return None,
     };
     Some(answer)
@@ -58,8 +58,8 @@ fn of_model(orbit: &Orbit) -> model::Orbit<'_> {
 fn on_cells(call: &Call, loans: &mut Loans) -> Option<Answer> {
     let Loans { rows, marks, queue, output, flags, .. } = loans;
     let answer = match *call {
-        Call::Identifier { cell, d } => model::identifier(cell, rows, marks, queue, d),
-        Call::Orbit { ref orbit, d } => model::orbit(of_model(orbit), rows, marks, output, d),
+        Call::Identifier { cell, d } => model::identifier(cell, rows, marks, queue, flags, d),
+        Call::Orbit { ref orbit, d } => model::orbit(of_model(orbit), rows, marks, output, flags, d),
         Call::List { cell } => model::list(cell, rows, marks, queue, output, flags),
         _ => return None,
     };
@@ -90,7 +90,7 @@ impl Kernel for Model {
     }
 
     fn run(&mut self, call: &Call, loans: &mut Loans) -> Answer {
-        on_rows(call, &mut loans.rows)
+        on_rows(call, &mut loans.rows, &loans.flags)
             .or_else(|| with_plan(call, loans))
             .or_else(|| on_cells(call, loans))
             .or_else(|| on_bytes(call, loans))

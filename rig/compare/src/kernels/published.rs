@@ -10,23 +10,30 @@ use crate::kernel::{Answer, Call, Cell, Kernel, Loans, Orbit};
 #[derive(Default)]
 pub struct Published {
     oracle: Option<Oracle>,
-    /// What the oracle holds, so that a map asked many things is put in once.
+    /// What the oracle holds, so that a map asked many things is put in once: its rows and its flags.
     held: Vec<u32>,
+    flags: Vec<u8>,
 }
 
 impl Published {
-    /// The oracle with these rows in it.
-    fn with(&mut self, rows: &[u32]) -> &mut Oracle {
+    /// The oracle with these rows in it, and with the flags of the darts where there are as many.
+    fn with(&mut self, rows: &[u32], flags: &[u8]) -> &mut Oracle {
         let n = rows.len() / 4;
         if self.oracle.as_ref().is_none_or(|oracle| oracle.darts() != n) {
             self.oracle = Some(Oracle::new(n));
             self.held.clear();
+            self.flags.clear();
         }
         let oracle = self.oracle.as_mut().expect("just put there");
         if self.held != rows {
             oracle.put_rows(rows);
             self.held.clear();
             self.held.extend_from_slice(rows);
+        }
+        if let Some(flags) = flags.get(..n).filter(|flags| self.flags != *flags) {
+            oracle.put_flags(flags);
+            self.flags.clear();
+            self.flags.extend_from_slice(flags);
         }
         oracle
     }
@@ -53,8 +60,8 @@ impl Published {
     }
 
     /// Reads, links and unlinks.
-    fn on_rows(&mut self, call: &Call, rows: &mut Vec<u32>) -> Option<Answer> {
-        let oracle = self.with(rows);
+    fn on_rows(&mut self, call: &Call, rows: &mut Vec<u32>, flags: &[u8]) -> Option<Answer> {
+        let oracle = self.with(rows, flags);
         let answer = match *call {
             Call::Beta { i, d } => return Some(oracle.beta(i as u8, d)),
             Call::IsIFree { i, d } => return Some(oracle.is_i_free(i as u8, d)),
@@ -75,7 +82,7 @@ impl Published {
 
     /// Sews and unsews.
     fn with_plan(&mut self, call: &Call, loans: &mut Loans) -> Option<Answer> {
-        let oracle = self.with(&loans.rows);
+        let oracle = self.with(&loans.rows, &loans.flags);
         let sewn = match *call {
             Call::OneSew { ld, rd } => oracle.one_sew(ld, rd),
             Call::OneUnsew { ld } => oracle.one_unsew(ld),
@@ -90,12 +97,12 @@ impl Published {
         Some(self.planned(sewn, loans))
     }
 
-    /// A command of a list as a single call. An operation that there is not, and darts that are none, are tested
-    /// here: the Rust has no such tests.
+    /// A command of a list as a single call. An operation that there is not, and darts that are none or unused, are
+    /// tested here: the Rust has no such tests.
     fn command(&mut self, numbers: [u32; 3], loans: &mut Loans) -> Answer {
         let Some(call) = Call::of_command(numbers) else { return (13, [u64::from(numbers[0]), 0, 0]) };
         let n = (loans.rows.len() / 4) as u32;
-        match call.numbers().iter().position(|d| !(1..n).contains(d)) {
+        match call.numbers().iter().position(|d| !(1..n).contains(d) || loans.flags[*d as usize] != 0) {
             Some(at) => (4, [at as u64 + 1, 0, 0]),
             None => self.run(&call, loans),
         }
@@ -122,14 +129,11 @@ impl Published {
 
     /// Identifiers, orbits and lists.
     fn on_cells(&mut self, call: &Call, loans: &mut Loans) -> Option<Answer> {
-        let oracle = self.with(&loans.rows);
+        let oracle = self.with(&loans.rows, &loans.flags);
         let (answer, list) = match *call {
             Call::Identifier { cell, d } => return Some(oracle.identifier(of_oracle(cell), d)),
             Call::Orbit { ref orbit, d } => oracle.orbit(orbit_of_oracle(orbit), d),
-            Call::List { cell } => {
-                oracle.put_flags(&loans.flags);
-                oracle.list(of_oracle(cell))
-            }
+            Call::List { cell } => oracle.list(of_oracle(cell)),
             _ => return None,
         };
         loans.output[..list.len()].copy_from_slice(&list);
@@ -164,14 +168,14 @@ fn orbit_of_oracle(orbit: &Orbit) -> oracle::Orbit<'_> {
 /// The most darts that a map may have, the null dart counted.
 const MOST_DARTS: usize = 1 << 20;
 
-/// Whether rows are a map, from the rules themselves.
-fn is_map(rows: &[u32]) -> bool {
+/// Whether rows and flags are a map, from the rules themselves.
+fn is_map(rows: &[u32], flags: &[u8]) -> bool {
     let n = rows.len() / 4;
     let image = |i: usize, d: usize| rows[4 * d + i] as usize;
     (0..n).all(|d| {
         (0..4).all(|i| match image(i, d) {
             0 => true,
-            x => d != 0 && x < n && image([1, 0, 2, 3][i], x) == d && (i < 2 || x != d),
+            x => d != 0 && x < n && image([1, 0, 2, 3][i], x) == d && (i < 2 || x != d) && flags[d] == 0,
         })
     })
 }
@@ -191,15 +195,17 @@ fn betas_and_darts(call: &Call) -> (Vec<u32>, Vec<u32>) {
 /// Whether the loans that the call has, but for the plan, are long enough for n darts.
 fn long_enough(call: &Call, loans: &Loans, n: usize) -> bool {
     let (marks, queue) = (loans.marks.len() >= n, loans.queue.len() >= n);
+    let (output, flags) = (loans.output.len() >= n, loans.flags.len() >= n);
     let vertices = loans.vertex_marks.len() >= n && loans.coordinates.len() >= 3 * n;
     match call {
-        Call::Identifier { .. } => marks && queue,
-        Call::Orbit { .. } => marks && loans.output.len() >= n,
-        Call::List { .. } => marks && queue && loans.output.len() >= n && loans.flags.len() >= n,
-        Call::TwoSew { .. } => marks && queue && vertices,
-        Call::Commands => marks && queue && loans.output.len() >= loans.commands.len() / 3 * 5 && vertices,
-        call if call.plans() => marks && queue,
-        _ => true,
+        Call::Beta { .. } | Call::IsIFree { .. } | Call::IsFree { .. } => true,
+        Call::Identifier { .. } => marks && queue && flags,
+        Call::Orbit { .. } => marks && output && flags,
+        Call::List { .. } => marks && queue && output && flags,
+        Call::TwoSew { .. } => marks && queue && flags && vertices,
+        Call::Commands => marks && queue && loans.output.len() >= loans.commands.len() / 3 * 5 && flags && vertices,
+        call if call.plans() => marks && queue && flags,
+        _ => flags,
     }
 }
 
@@ -208,8 +214,9 @@ impl Kernel for Published {
         "published Rust"
     }
 
-    /// It has one wherever refusals 1 to 5, 12 and 13, which it does not have, do not come first; the map test,
-    /// the reader and the writer as calls have no counterpart in it. A list of commands is its calls.
+    /// It has one wherever refusals 1 to 5, 12 and 13, which it does not have, do not come first: on maps whose
+    /// unused darts are free, of used darts, and where dart 0 is allowed of unused ones too. The map test, the
+    /// reader and the writer as calls have no counterpart in it. A list of commands is its calls.
     fn has_say(&self, call: &Call, before: &Loans) -> bool {
         let n = before.rows.len() / 4;
         let sized = before.rows.len() == 4 * n && (1..=MOST_DARTS).contains(&n);
@@ -226,8 +233,8 @@ impl Kernel for Published {
             && whole
             && long_enough(call, before, n)
             && betas.iter().all(|&i| i < 4)
-            && darts.iter().all(|&d| (least..n as u32).contains(&d))
-            && (reads || is_map(&before.rows))
+            && darts.iter().all(|&d| (least..n as u32).contains(&d) && (least == 0 || before.flags[d as usize] == 0))
+            && (reads || is_map(&before.rows, &before.flags))
     }
 
     fn leaves_scratch(&self) -> bool {
@@ -238,7 +245,7 @@ impl Kernel for Published {
         if *call == Call::Commands {
             return self.commands(loans);
         }
-        self.on_rows(call, &mut loans.rows)
+        self.on_rows(call, &mut loans.rows, &loans.flags)
             .or_else(|| self.with_plan(call, loans))
             .or_else(|| self.on_cells(call, loans))
             .expect("the Rust has no map test, no reader and no writer")

@@ -62,10 +62,11 @@ pub(super) fn every_call(n: usize) -> Vec<Call> {
     calls
 }
 
-/// A dart for which `fits` holds, if a few tries find one; else any real dart.
+/// A dart for which `fits` holds, if a few tries find one; else, and now and then at once, any real dart.
 fn dart(random: &mut Random, n: usize, fits: impl Fn(u32) -> bool) -> u32 {
     let mut d = 1 + random.below(n - 1) as u32;
-    for _ in 0..12 {
+    let tries = if random.percent(3) { 0 } else { 12 };
+    for _ in 0..tries {
         if fits(d) {
             break;
         }
@@ -75,9 +76,9 @@ fn dart(random: &mut Random, n: usize, fits: impl Fn(u32) -> bool) -> u32 {
 }
 
 /// A call on this map, more often than not one that can be done.
-pub(super) fn some_call(random: &mut Random, rows: &[u32]) -> Call {
+pub(super) fn some_call(random: &mut Random, rows: &[u32], flags: &[u8]) -> Call {
     let n = rows.len() / 4;
-    let free = |i: usize| move |d: u32| rows[4 * d as usize + i] == 0;
+    let free = |i: usize| move |d: u32| rows[4 * d as usize + i] == 0 && flags[d as usize] == 0;
     let bound = |i: usize| move |d: u32| rows[4 * d as usize + i] != 0;
     let any = random.below(n) as u32;
     match random.below(25) {

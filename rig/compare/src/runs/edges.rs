@@ -1,15 +1,18 @@
 //! Edges: one round or one chain of beta 2 and beta 3 in turn, named from every dart.
 
+use super::loans::fill_flags;
 use crate::check::Comparison;
 use crate::kernel::{Call, Cell, Loans, Orbit};
 use crate::maps;
 use crate::random::Random;
 
 /// The name of the edge of every dart, and the orbit of one of them; the list of all edges; a 2-sew and a
-/// 2-unsew of every fifth dart, which name an edge each side.
+/// 2-unsew of every fifth dart, which name an edge each side. Some of the free darts may be unused.
 fn ask(comparison: &mut Comparison, random: &mut Random, rows: Vec<u32>) {
     let n = rows.len() / 4;
-    let loans = Loans::around(rows);
+    let mut loans = Loans::around(rows);
+    let unused = *random.pick(&[0, 0, 10, 40]);
+    fill_flags(random, &mut loans, unused);
     comparison.maps += 1;
     for d in 0..n as u32 {
         comparison.check(&Call::Identifier { cell: Cell::Edge, d }, &loans);

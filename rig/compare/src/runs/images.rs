@@ -7,7 +7,7 @@ use crate::kernel::{Call, Loans};
 use crate::maps;
 use crate::random::Random;
 
-/// A stored image, form 1, of these rows.
+/// A stored image, form 1, of these rows; some of the free darts are unused.
 pub fn image_of(random: &mut Random, rows: &[u32]) -> Vec<u8> {
     let n = rows.len() / 4;
     let mut vertices: Vec<usize> = (1..n).filter(|_| random.percent(40)).collect();
@@ -16,7 +16,7 @@ pub fn image_of(random: &mut Random, rows: &[u32]) -> Vec<u8> {
     let header = [1, total, n, 28, 28 + 16 * n, vertices.len(), 28 + 17 * n];
     let mut bytes: Vec<u8> = header.iter().flat_map(|&word| (word as u32).to_le_bytes()).collect();
     bytes.extend(rows.iter().flat_map(|word| word.to_le_bytes()));
-    bytes.extend((0..n).map(|d| u8::from(d > 0 && random.percent(20))));
+    bytes.extend((0..n).map(|d| u8::from(d > 0 && maps::is_free(rows, d) && random.percent(40))));
     for dart in vertices {
         bytes.extend((dart as u32).to_le_bytes());
         for _ in 0..3 {
@@ -66,14 +66,14 @@ fn spoil_vertex(random: &mut Random, bytes: &mut [u8], n: usize) {
 pub fn spoil_image(random: &mut Random, bytes: &mut Vec<u8>, n: usize, faults: usize) {
     for _ in 0..faults {
         let length = bytes.len();
-        match random.below(9) {
+        match random.below(10) {
             0 | 1 => spoil_header(random, bytes, n),
             2 => bytes.truncate(*random.pick(&[0, 3, 4, 27, 28, length.saturating_sub(1)])),
             3 => bytes.push(0),
             4 => put(bytes, 28 + 4 * random.below(4 * n), any_number(random, n)),
-            5 => {
+            5 | 8 => {
                 if let Some(flag) = bytes.get_mut(28 + 16 * n + random.below(n)) {
-                    *flag = *random.pick(&[0, 1, 2, 255]);
+                    *flag = *random.pick(&[0, 1, 1, 1, 2, 255]);
                 }
             }
             6 | 7 => spoil_vertex(random, bytes, n),
@@ -111,7 +111,10 @@ pub fn images(comparison: &mut Comparison, rounds: usize, seed: u64) {
     for round in 0..rounds {
         comparison.maps += 1;
         let n = if round % 16 == 0 { 1 + random.below(200) } else { 1 + random.below(7) };
-        let rows = if random.percent(50) { maps::wild(&mut random, n) } else { maps::faces(&mut random, n) };
+        let mut rows = if random.percent(50) { maps::wild(&mut random, n) } else { maps::faces(&mut random, n) };
+        if random.percent(30) && n > 1 {
+            maps::set_free(&mut rows, 1 + random.below(n - 1));
+        }
         let mut loans = reader_loans(n);
         loans.bytes = image_of(&mut random, &rows);
         let faults = *random.pick(&[0, 1, 1, 1, 2]);

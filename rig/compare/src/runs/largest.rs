@@ -2,18 +2,21 @@
 
 use super::calls::CELLS;
 use super::images::reader_loans;
+use super::loans::take_out;
 use crate::check::Comparison;
 use crate::kernel::{Call, Cell, Loans, Orbit};
 use crate::maps;
 use crate::random::Random;
 
-/// The largest map, one dart more, lengths that are no rows, long faces, whole grids and the largest images.
+/// The largest map, one dart more, lengths that are no rows, long faces, whole grids and the largest images. The
+/// last dart is used, then unused.
 pub fn largest(comparison: &mut Comparison) {
-    for length in [4_194_304, 4_194_308, 4_194_305, 4_194_303] {
+    for (length, flag) in [(4_194_304, 0), (4_194_304, 255), (4_194_308, 0), (4_194_305, 0), (4_194_303, 0)] {
         comparison.maps += 1;
         let mut loans = Loans::around(vec![0; length]);
         loans.plan.truncate(16);
         let last = (length / 4 - 1) as u32;
+        (loans.flags[0], loans.flags[last as usize]) = (0, flag);
         loans.commands = vec![2, 1, last, 6, last + 1, 0, 5, last, 2, 9, last, last, 10, last, 0, 4, last, 1];
         for call in [
             Call::CheckMap,
@@ -29,10 +32,24 @@ pub fn largest(comparison: &mut Comparison) {
         ] {
             comparison.check(&call, &loans);
         }
+        loans.flags.truncate(last as usize);
+        comparison.check(&Call::CheckMap, &loans);
     }
     rings(comparison);
     grids(comparison);
     stored(comparison);
+}
+
+/// The last place of all that breaks a rule; then its dart unused too, where the image comes first, and the flag
+/// alone.
+fn last_place(comparison: &mut Comparison, loans: &mut Loans) {
+    let last = loans.rows.len() - 1;
+    for (image, flag) in [(1, 0), (1, 1), (0, 1)] {
+        (loans.rows[last], loans.flags[last / 4]) = (image, flag);
+        comparison.check(&Call::CheckMap, loans);
+        comparison.check(&Call::TwoLink { ld: 1, rd: 3 }, loans);
+    }
+    loans.flags[last / 4] = 0;
 }
 
 /// Two closed faces of half a million darts each: long walks, deep searches.
@@ -52,11 +69,7 @@ fn rings(comparison: &mut Comparison) {
     for call in [Call::Identifier { cell: Cell::Face, d: half }, Call::Orbit { orbit: Orbit::Face, d: 3 }] {
         comparison.check(&call, &loans);
     }
-    // the last place of all that breaks a rule
-    let last = loans.rows.len() - 1;
-    loans.rows[last] = half;
-    comparison.check(&Call::CheckMap, &loans);
-    loans.rows[last] = 0;
+    last_place(comparison, &mut loans);
     // glued, a pair of it unlinked and sewn beside, unglued from another dart
     loans.commands = vec![3, 7, half + 9, 6, half, 0, 1, half, 1, 3, 9, half + 11, 4, half, 1, 8, 1, 0, 8, half, 1];
     comparison.check(&Call::Commands, &loans);
@@ -77,32 +90,32 @@ fn rings(comparison: &mut Comparison) {
     }
 }
 
-/// Grids of cubes of some thousand darts, whole and with parts unglued, listed class by class.
+/// Grids of cubes of some thousand darts, whole and with parts unglued, listed class by class; then with darts
+/// taken out.
 fn grids(comparison: &mut Comparison) {
     let mut random = Random::new(9);
     for (size, cuts) in [([12, 12, 6], 0), ([12, 12, 6], 300), ([9, 4, 8], 4000)] {
         comparison.maps += 1;
         let (mut rows, marks, coordinates) = maps::cubes(size);
         let n = rows.len() / 4;
+        let used = vec![0; n];
         for _ in 0..cuts {
             let ld = 1 + random.below(n - 1) as u32;
             match random.below(4) {
-                0 => model::one_unlink(&mut rows, ld),
-                1 => model::two_unlink(&mut rows, ld),
-                _ => model::three_unlink(&mut rows, ld),
+                0 => model::one_unlink(&mut rows, &used, ld),
+                1 => model::two_unlink(&mut rows, &used, ld),
+                _ => model::three_unlink(&mut rows, &used, ld),
             };
         }
         let mut loans = Loans::around(rows);
         loans.vertex_marks[..n].copy_from_slice(&marks);
         loans.coordinates[..3 * n].copy_from_slice(&coordinates);
         comparison.check(&Call::CheckMap, &loans);
-        for cell in CELLS {
-            loans.flags.fill(0);
-            comparison.check(&Call::List { cell }, &loans);
-            for flag in &mut loans.flags {
-                *flag = u8::from(random.percent(10));
+        for out in [0, 10] {
+            take_out(&mut random, &mut loans, out);
+            for cell in CELLS {
+                comparison.check(&Call::List { cell }, &loans);
             }
-            comparison.check(&Call::List { cell }, &loans);
         }
     }
 }
@@ -113,6 +126,7 @@ fn stored(comparison: &mut Comparison) {
     let n = 1_048_576;
     let mut loans = Loans::around(vec![0; 4 * n]);
     loans.plan.truncate(16);
+    loans.flags[0] = 0;
     for l in 1..n {
         let r = 1 + l % (n - 1);
         loans.rows[4 * l + 1] = r as u32;

@@ -1,7 +1,7 @@
 //! Lists of commands: all small ones, and random ones in which plans run out.
 
 use super::calls::{any_number, some_call};
-use super::loans::{fill_vertices, resize};
+use super::loans::{fill_vertices, put_unused, resize, spoil_flag, take_out};
 use crate::check::Comparison;
 use crate::kernel::{Answer, Call, Kernel, Loans};
 use crate::kernels::Model;
@@ -111,8 +111,32 @@ fn there_and_back(comparison: &mut Comparison, tally: &mut Tally, random: &mut R
     }
 }
 
-/// All maps of `k` real darts with every list of one command, and where `pairs` of two; vertices are any or
-/// none.
+/// Every list of one of these commands, and where `pairs` of two.
+fn every_list(
+    comparison: &mut Comparison,
+    tally: &mut Tally,
+    random: &mut Random,
+    loans: &mut Loans,
+    commands: &[Command],
+    pairs: bool,
+) {
+    for first in commands {
+        lend(loans, &[*first]);
+        with_rooms(comparison, tally, random, loans);
+        for second in commands.iter().filter(|_| pairs) {
+            lend(loans, &[*first, *second]);
+            let (answer, _) = check(comparison, tally, loans);
+            if answer.1[1] > 0 {
+                let mut tight = loans.clone();
+                tight.plan.truncate(4 * random.below(answer.1[1] as usize) + random.below(4));
+                check(comparison, tally, &tight);
+            }
+        }
+    }
+}
+
+/// All maps of `k` real darts, with every choice of unused ones among the free, with every list of one command,
+/// and where `pairs` of two; vertices are any or none.
 fn small(comparison: &mut Comparison, tally: &mut Tally, random: &mut Random, k: usize, pairs: bool) {
     let commands = every_command(random, k + 1);
     let mut loans = Loans::around(vec![0; 4 * (k + 1)]);
@@ -121,32 +145,23 @@ fn small(comparison: &mut Comparison, tally: &mut Tally, random: &mut Random, k:
         loans.rows.copy_from_slice(rows);
         let defined = *random.pick(&[0, 60, 100]);
         fill_vertices(random, &mut loans, defined);
-        for first in &commands {
-            lend(&mut loans, &[*first]);
-            with_rooms(comparison, tally, random, &loans);
-            for second in commands.iter().filter(|_| pairs) {
-                lend(&mut loans, &[*first, *second]);
-                let (answer, _) = check(comparison, tally, &loans);
-                if answer.1[1] > 0 {
-                    let mut tight = loans.clone();
-                    tight.plan.truncate(4 * random.below(answer.1[1] as usize) + random.below(4));
-                    check(comparison, tally, &tight);
-                }
-            }
+        for unused in maps::unused_choices(rows) {
+            put_unused(random, &mut loans, &unused);
+            every_list(comparison, tally, random, &mut loans, &commands, pairs);
+            there_and_back(comparison, tally, random, &mut loans);
         }
-        there_and_back(comparison, tally, random, &mut loans);
     });
 }
 
 /// A command on this map, more often than not one that can be done; and now and then any numbers.
-fn some_command(random: &mut Random, rows: &[u32]) -> Command {
+fn some_command(random: &mut Random, rows: &[u32], flags: &[u8]) -> Command {
     let n = rows.len() / 4;
     if n < 2 || random.percent(8) {
         let operation = *random.pick(&[0, 1, 3, 5, 6, 8, 9, 11, 12, 13, 255, 256, 259, u32::MAX]);
         return [operation, any_number(random, n), any_number(random, n)];
     }
     loop {
-        let call = some_call(random, rows);
+        let call = some_call(random, rows, flags);
         let numbers = call.numbers();
         let (Some(&ld), Some(&rd)) = (numbers.first(), numbers.last()) else { continue };
         let stands_for = |operation: &u32| Call::of_command([*operation, ld, rd]).as_ref() == Some(&call);
@@ -163,7 +178,7 @@ pub(super) fn some_list(random: &mut Random, loans: &Loans, commands: usize) -> 
     let mut list = Vec::new();
     let mut at = loans.clone();
     while list.len() < commands {
-        let command = some_command(random, &at.rows);
+        let command = some_command(random, &at.rows, &at.flags);
         list.push(command);
         if let Some(call) = Call::of_command(command) {
             let (number, _) = Model.run(&call, &mut at);
@@ -177,10 +192,10 @@ pub(super) fn some_list(random: &mut Random, loans: &Loans, commands: usize) -> 
     list
 }
 
-/// One fault: a size, an image of a dart, a number of the list, its length.
+/// One fault: a size, an image of a dart, a flag, a number of the list, its length.
 fn spoil(random: &mut Random, loans: &mut Loans) {
     let n = loans.rows.len() / 4;
-    match random.below(12) {
+    match random.below(15) {
         0 => resize(random, &mut loans.rows, 0),
         1 => resize(random, &mut loans.marks, 3),
         2 => resize(random, &mut loans.queue, 3),
@@ -197,11 +212,14 @@ fn spoil(random: &mut Random, loans: &mut Loans) {
             loans.commands[place] = any_number(random, n);
         }
         10 => loans.commands.push(any_number(random, n)),
+        11 => resize(random, &mut loans.flags, 1),
+        12 | 13 => spoil_flag(random, loans),
         _ => resize(random, &mut loans.commands, 1),
     }
 }
 
-/// Loans around a random map or a grid of cubes, with points in some of its slots.
+/// Loans around a random map or a grid of cubes, of which some darts may be unused, with points in some of its
+/// slots.
 fn some_loans(random: &mut Random, round: usize) -> Loans {
     let n = 1 + random.below([4, 8, 24, 100][round % 4]);
     let kind = random.below(6);
@@ -221,6 +239,8 @@ fn some_loans(random: &mut Random, round: usize) -> Loans {
         loans.vertex_marks[..marks.len()].copy_from_slice(&marks);
         loans.coordinates[..coordinates.len()].copy_from_slice(&coordinates);
     }
+    let unused = *random.pick(&[0, 0, 5, 25]);
+    take_out(random, &mut loans, unused);
     loans
 }
 

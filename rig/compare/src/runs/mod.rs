@@ -14,7 +14,7 @@ mod small;
 mod walks;
 mod writes;
 
-pub use answers::{answers, listed, wrong};
+pub use answers::{answers, listed, unused, wrong};
 pub use bytes::bytes;
 pub use edges::edges;
 pub use floats::floats;

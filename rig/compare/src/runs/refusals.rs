@@ -1,13 +1,13 @@
 //! Inputs that are wrong.
 
 use super::calls::{any_call, any_number};
-use super::loans::{fill_vertices, resize};
+use super::loans::{fill_flags, fill_vertices, resize, spoil_flag};
 use crate::check::Comparison;
 use crate::kernel::Loans;
 use crate::maps;
 use crate::random::Random;
 
-/// Inputs that are wrong in one way or several: sizes, loans, rows, darts, betas, plan room.
+/// Inputs that are wrong in one way or several: sizes, loans, rows, flags, darts, betas, plan room.
 pub fn refusals(comparison: &mut Comparison, rounds: usize, seed: u64) {
     let mut random = Random::new(seed);
     for _ in 0..rounds {
@@ -16,9 +16,11 @@ pub fn refusals(comparison: &mut Comparison, rounds: usize, seed: u64) {
         let rows = if random.percent(50) { maps::wild(&mut random, n) } else { maps::faces(&mut random, n) };
         let mut loans = Loans::around(rows);
         fill_vertices(&mut random, &mut loans, 80);
+        let unused = *random.pick(&[0, 50, 100]);
+        fill_flags(&mut random, &mut loans, unused);
         // most of the time one fault, sometimes none, sometimes several
         for _ in 0..*random.pick(&[0, 1, 1, 1, 2, 3, 6]) {
-            match random.below(12) {
+            match random.below(14) {
                 0 => resize(&mut random, &mut loans.rows, 0),
                 1 => resize(&mut random, &mut loans.marks, 3),
                 2 => resize(&mut random, &mut loans.queue, 3),
@@ -28,6 +30,7 @@ pub fn refusals(comparison: &mut Comparison, rounds: usize, seed: u64) {
                 6 => resize(&mut random, &mut loans.coordinates, 1.0),
                 7 => resize(&mut random, &mut loans.plan, 9),
                 8 => loans.plan.truncate(random.below(9)),
+                9 | 10 => spoil_flag(&mut random, &mut loans),
                 _ => {
                     if !loans.rows.is_empty() {
                         let place = random.below(loans.rows.len());

@@ -1,7 +1,7 @@
 //! All small maps.
 
 use super::calls::every_call;
-use super::loans::fill_vertices;
+use super::loans::{fill_vertices, put_unused, yes};
 use crate::check::Comparison;
 use crate::kernel::{Call, Loans};
 use crate::maps;
@@ -22,21 +22,38 @@ fn settings(random: &mut Random, n: usize) -> Vec<Setting> {
 }
 
 /// The map test on the map with one image changed: to every number up to n, at every place; of five
-/// darts and more at one place only, since there are so many maps.
+/// darts and more at one place only, since there are so many maps. To one of the numbers with any flags, too.
 fn one_change(comparison: &mut Comparison, random: &mut Random, loans: &mut Loans) {
     let (places, n) = (loans.rows.len(), loans.rows.len() / 4);
     let only = if n > 5 { Some(random.below(places)) } else { None };
+    let flags = loans.flags.clone();
     for place in (0..places).filter(|&place| only.is_none_or(|only| only == place)) {
         let old = loans.rows[place];
         for to in (0..=n as u32).filter(|&to| to != old) {
             loans.rows[place] = to;
             comparison.check(&Call::CheckMap, loans);
         }
+        loans.rows[place] = random.below(n + 1) as u32;
+        let unused = *random.pick(&[20, 50, 100]);
+        loans.flags.fill_with(|| yes(random, unused));
+        comparison.check(&Call::CheckMap, loans);
+        loans.flags.clone_from(&flags);
         loans.rows[place] = old;
     }
 }
 
-/// A call again with other vertices, flags or rows, where it looks at them.
+/// Every choice of darts to be unused, linked ones among them: the map test, and one call of all.
+fn any_unused(comparison: &mut Comparison, random: &mut Random, loans: &mut Loans, calls: &[Call]) {
+    let n = loans.rows.len() / 4;
+    for choice in 0..1usize << (n - 1) {
+        let unused: Vec<usize> = (1..n).filter(|d| choice >> (d - 1) & 1 == 1).collect();
+        put_unused(random, loans, &unused);
+        comparison.check(&Call::CheckMap, loans);
+        comparison.check(random.pick(calls), loans);
+    }
+}
+
+/// A call again with other vertices or rows, where it looks at them.
 fn again(comparison: &mut Comparison, random: &mut Random, loans: &mut Loans, call: &Call, settings: &[Setting]) {
     let mut tight = Loans::default();
     match call {
@@ -48,20 +65,14 @@ fn again(comparison: &mut Comparison, random: &mut Random, loans: &mut Loans, ca
                 comparison.check_with_rooms(call, loans, &mut tight);
             }
         }
-        Call::List { .. } => {
-            for flag in &mut loans.flags {
-                *flag = if random.percent(30) { 1 + random.below(255) as u8 } else { 0 };
-            }
-            comparison.check(call, loans);
-        }
         Call::CheckMap => one_change(comparison, random, loans),
         _ => {}
     }
 }
 
-/// All well-formed maps of `k` real darts with every call and dart; 2-sews without vertices and with
-/// two random settings, lists with and without flags, plans with little, just enough and ample room; the
-/// map test also with one image changed.
+/// All well-formed maps of `k` real darts, with every choice of unused ones among the free, with every call and
+/// dart; 2-sews without vertices and with two random settings, plans with little, just enough and ample room; the
+/// map test also with one image changed; and flags of linked darts.
 ///
 /// Part `part`, counted from 0, of `parts`.
 pub fn small(comparison: &mut Comparison, k: usize, part: usize, parts: usize) {
@@ -74,11 +85,14 @@ pub fn small(comparison: &mut Comparison, k: usize, part: usize, parts: usize) {
     maps::part_of(k, part, parts, |rows| {
         comparison.maps += 1;
         loans.rows.copy_from_slice(rows);
-        for call in &calls {
-            loans.vertex_marks.fill(0);
-            loans.flags.fill(0);
-            comparison.check_with_rooms(call, &loans, &mut tight);
-            again(comparison, &mut random, &mut loans, call, &settings);
+        for unused in maps::unused_choices(rows) {
+            put_unused(&mut random, &mut loans, &unused);
+            for call in &calls {
+                loans.vertex_marks.fill(0);
+                comparison.check_with_rooms(call, &loans, &mut tight);
+                again(comparison, &mut random, &mut loans, call, &settings);
+            }
         }
+        any_unused(comparison, &mut random, &mut loans, &calls);
     });
 }

@@ -1,7 +1,7 @@
 //! Long walks of calls.
 
 use super::calls::some_call;
-use super::loans::fill_vertices;
+use super::loans::{fill_vertices, take_out};
 use crate::check::Comparison;
 use crate::kernel::Loans;
 use crate::maps;
@@ -25,8 +25,8 @@ fn start(random: &mut Random, n: usize) -> Loans {
     loans
 }
 
-/// Long walks: from random maps of up to a few hundred darts and from grids of cubes, call after call,
-/// each on what the one before left.
+/// Long walks: from random maps of up to a few hundred darts and from grids of cubes, of which some darts may be
+/// taken out and unused, call after call, each on what the one before left.
 pub fn walks(comparison: &mut Comparison, rounds: usize, steps: usize, seed: u64) {
     for round in 0..rounds {
         // each round can be run again by itself
@@ -36,12 +36,10 @@ pub fn walks(comparison: &mut Comparison, rounds: usize, steps: usize, seed: u64
         let mut loans = start(&mut random, n);
         comparison.maps += 1;
         let mut tight = Loans::default();
-        let unused = *random.pick(&[0, 0, 20]);
-        for flag in &mut loans.flags {
-            *flag = u8::from(random.percent(unused));
-        }
+        let unused = *random.pick(&[0, 5, 25]);
+        take_out(&mut random, &mut loans, unused);
         for _ in 0..steps {
-            let call = some_call(&mut random, &loans.rows);
+            let call = some_call(&mut random, &loans.rows, &loans.flags);
             comparison.check_with_rooms(&call, &loans, &mut tight);
             let (answer, after) = comparison.check(&call, &loans);
             if answer.0 == 0 {

@@ -2,7 +2,7 @@
 
 use super::calls::any_number;
 use super::images::{image_of, reader_loans};
-use super::loans::{fill_vertices, resize};
+use super::loans::{fill_vertices, resize, spoil_flag, take_out, yes};
 use crate::check::Comparison;
 use crate::kernel::{Call, Loans};
 use crate::maps;
@@ -11,15 +11,6 @@ use crate::random::Random;
 /// The bits of a coordinate's exponent; all of them in a NaN or an infinity, none below the normal numbers.
 const EXPONENT: u64 = 0x7FF0_0000_0000_0000;
 const SIGN: u64 = 1 << 63;
-
-/// A byte that stands for yes, 1 or another, so many times in a hundred, else 0.
-fn yes(random: &mut Random, percent: usize) -> u8 {
-    match random.percent(percent) {
-        true if random.percent(50) => 1,
-        true => 1 + random.below(255) as u8,
-        false => 0,
-    }
-}
 
 /// A NaN or an infinity, of either sign; a NaN with any payload.
 fn no_number(random: &mut Random) -> f64 {
@@ -75,29 +66,33 @@ fn with_rooms(comparison: &mut Comparison, random: &mut Random, loans: &mut Loan
     }
 }
 
-/// All maps of `k` real darts with every choice of unused darts and of slots that hold a point, among them
-/// dart 0 and slot 0, and any coordinates.
+/// All maps of `k` real darts with every choice of unused darts, linked ones among them, and of slots that hold a
+/// point, dart 0 and slot 0 among them, and any coordinates; more of these where every unused dart is free.
 fn small(comparison: &mut Comparison, random: &mut Random, k: usize) {
     let n = k + 1;
     let mut loans = Loans::around(vec![0; 4 * n]);
     maps::all_of(k, |rows| {
         comparison.maps += 1;
         loans.rows.copy_from_slice(rows);
-        for choice in 0..1 << (2 * n) {
-            fill_coordinates(random, &mut loans);
-            for d in 0..n {
-                loans.flags[d] = yes(random, 100 * (choice >> d & 1));
-                loans.vertex_marks[d] = yes(random, 100 * (choice >> (n + d) & 1));
+        for choice in 0..1usize << (2 * n) {
+            let is_map = (1..n).all(|d| choice >> d & 1 == 0 || maps::is_free(rows, d));
+            for _ in 0..if is_map { 6 } else { 1 } {
+                fill_coordinates(random, &mut loans);
+                for d in 0..n {
+                    loans.flags[d] = yes(random, 100 * (choice >> d & 1));
+                    loans.vertex_marks[d] = yes(random, 100 * (choice >> (n + d) & 1));
+                }
+                if random.percent(75) {
+                    make_finite(&mut loans);
+                }
+                with_rooms(comparison, random, &mut loans);
             }
-            if random.percent(75) {
-                make_finite(&mut loans);
-            }
-            with_rooms(comparison, random, &mut loans);
         }
     });
 }
 
-/// A random map with loans that do: as long as they have to be or a little longer, with anything behind.
+/// A random map, of which some darts may be unused, with loans that do: as long as they have to be or a little
+/// longer, with anything behind.
 fn random_loans(random: &mut Random, n: usize) -> Loans {
     // faces are linked one by one, which would take long on a large map
     let rows = if n > 60 || random.percent(50) { maps::wild(random, n) } else { maps::faces(random, n) };
@@ -105,16 +100,17 @@ fn random_loans(random: &mut Random, n: usize) -> Loans {
     let (unused, defined) = (*random.pick(&[0, 20, 100]), *random.pick(&[0, 30, 90, 100]));
     loans.coordinates.resize(3 * n + random.below(4), 0.0);
     fill_coordinates(random, &mut loans);
-    loans.flags = (0..n + random.below(4)).map(|_| yes(random, unused)).collect();
+    loans.flags.resize(n + random.below(4), 0);
+    take_out(random, &mut loans, unused);
     loans.flags[0] = 0;
     loans.vertex_marks = (0..n + random.below(4)).map(|_| yes(random, defined)).collect();
     make_finite(&mut loans);
     loans
 }
 
-/// One fault: a size, an image of a dart, the flag of dart 0, a coordinate.
+/// One fault: a size, an image of a dart, the flag of dart 0 or any, a coordinate.
 fn spoil(random: &mut Random, loans: &mut Loans) {
-    match random.below(9) {
+    match random.below(10) {
         0 => resize(random, &mut loans.rows, 0),
         1 => resize(random, &mut loans.flags, 1),
         2 => resize(random, &mut loans.vertex_marks, 1),
@@ -124,6 +120,7 @@ fn spoil(random: &mut Random, loans: &mut Loans) {
             loans.rows[place] = any_number(random, n);
         }
         6 if !loans.flags.is_empty() => loans.flags[0] = yes(random, 100),
+        7 => spoil_flag(random, loans),
         _ if !loans.coordinates.is_empty() => {
             let place = random.below(loans.coordinates.len());
             loans.coordinates[place] = no_number(random);

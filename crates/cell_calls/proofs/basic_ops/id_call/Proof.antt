@@ -12,13 +12,13 @@ use borrow.Author.Needs.{needs}
 use Rattle.cell_calls.proofs.basic_ops.id_call.Statement.{statement}
 use Rattle.cell_calls.proofs.basic_ops.id_call.Tie as tie
 
-guarded : (c : tie.After-guard) → c .guard .result ≡ idGuard (c .before .before .before .before .before .args .rows .now)
-    (c .before .before .before .before .before .args .marks .now) (c .before .before .before .before .before .args .queue .now)
-    (c .before .before .before .before .before .args .d)
+guarded : (c : tie.After-guard) →
+    let args = c .before .before .before .before .before .before .args in
+    c .guard .result ≡ idGuard (args .rows .now) (args .marks .now) (args .queue .now) (args .flags .now) (args .d)
 guarded c =
     let at-scratch = c .before in
-    let entry = at-scratch .before .before .before .before in
-    c .guard .ensures ∙ ap (λ (l : Loans). guardOf (entry .args .rows .now) l 0 (entry .args .d) (entry .args .d)) (at-scratch .scratch .ensures)
+    let entry = at-scratch .before .before .before .before .before in
+    c .guard .ensures ∙ ap (λ (l : Loans). guardOf (entry .args .rows .now) (entry .args .flags .now) l 0 (entry .args .d) (entry .args .d)) (at-scratch .scratch .ensures)
 
 passed : (c : tie.Else1) → isDone (c .before .before .guard .result) ≡ true
 passed c =
@@ -45,9 +45,9 @@ id-done-requires : tie.Need-id-done-requires
 id-done-requires c κs =
     let at-if1 = c .before .before in
     let at-guard = at-if1 .before .before in
-    let entry = at-guard .before .before .before .before .before in
-    let r = id-ready (entry .args .rows .now) (entry .args .marks .now) (entry .args .queue .now) (entry .args .d) _ (guarded at-guard) (passed at-if1) in
-    (r .formed, r .lent .marks, r .lent .queue, r .left .below)
+    let entry = at-guard .before .before .before .before .before .before in
+    let r = id-ready (entry .args .rows .now) (entry .args .marks .now) (entry .args .queue .now) (entry .args .flags .now) (entry .args .d) _ (guarded at-guard) (passed at-if1) in
+    (r .map .formed, r .lent .marks, r .lent .queue, r .left .below)
 
 same-length : tie.Need-same-length
 same-length c = search needs

@@ -19,7 +19,7 @@ guarded : (c : tie.After-guard) → c .guard .result ≡ listGuard (c .before .b
 guarded c =
     let at-list-loans = c .before in
     let entry = at-list-loans .before .before .before .before .before .before in
-    c .guard .ensures ∙ ap (λ (l : Loans). guardOf (entry .args .rows .now) l 0 0 0) (at-list-loans .list-loans .ensures)
+    c .guard .ensures ∙ ap (λ (l : Loans). guardOf (entry .args .rows .now) (entry .args .flags .now) l 0 0 0) (at-list-loans .list-loans .ensures)
 
 passed : (c : tie.Else1) → isDone (c .before .before .guard .result) ≡ true
 passed c =
@@ -49,7 +49,7 @@ list-done-requires c κs =
     let entry = at-guard .before .before .before .before .before .before .before in
     let r = list-ready (entry .args .rows .now) (entry .args .marks .now) (entry .args .queue .now) (entry .args .output .now)
     (entry .args .flags .now) _ (guarded at-guard) (passed at-if1) in
-    (r .formed, r .lent .marks, r .lent .queue, r .lent .output, r .lent .flags)
+    (r .map .formed, r .lent .marks, r .lent .queue, r .lent .output, r .map .flagged)
 
 same-length : tie.Need-same-length
 same-length c = search needs

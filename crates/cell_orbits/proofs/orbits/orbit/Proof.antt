@@ -16,13 +16,13 @@ use borrow.Author.Needs.{needs}
 use Rattle.cell_orbits.proofs.orbits.orbit.Statement.{statement}
 use Rattle.cell_orbits.proofs.orbits.orbit.Tie as tie
 
-guarded : (c : tie.After-guard) → c .guard .result ≡ orbitGuard (c .before .before .before .before .before .args .rows .now)
-    (c .before .before .before .before .before .args .marks .now) (c .before .before .before .before .before .args .output .now)
-    (c .before .before .before .before .before .args .d)
+guarded : (c : tie.After-guard) →
+    let args = c .before .before .before .before .before .before .args in
+    c .guard .result ≡ orbitGuard (args .rows .now) (args .marks .now) (args .output .now) (args .flags .now) (args .d)
 guarded c =
     let at-orbit-loans = c .before in
-    let entry = at-orbit-loans .before .before .before .before in
-    c .guard .ensures ∙ ap (λ (l : Loans). guardOf (entry .args .rows .now) l 0 (entry .args .d) (entry .args .d)) (at-orbit-loans .orbit-loans .ensures)
+    let entry = at-orbit-loans .before .before .before .before .before in
+    c .guard .ensures ∙ ap (λ (l : Loans). guardOf (entry .args .rows .now) (entry .args .flags .now) l 0 (entry .args .d) (entry .args .d)) (at-orbit-loans .orbit-loans .ensures)
 
 passed : (c : tie.Else1) → isDone (c .before .before .guard .result) ≡ true
 passed c =
@@ -51,13 +51,13 @@ steps-of-requires c κs = search needs
 array-share-prefix-codes : tie.Need-array-share-prefix-codes
 array-share-prefix-codes c =
     let at-steps-of = c .before in
-    let entry = at-steps-of .before .before .before .before .before .before .before .before in
+    let entry = at-steps-of .before .before .before .before .before .before .before .before .before in
     codes-fit (entry .args .policy) _ (at-steps-of .steps-of .ensures) .0
 
 slice-aggregate-list-orbit : tie.Need-slice-aggregate-list-orbit
 slice-aggregate-list-orbit c =
     let at-steps-of = c .before .before in
-    let entry = at-steps-of .before .before .before .before .before .before .before .before in
+    let entry = at-steps-of .before .before .before .before .before .before .before .before .before in
     sym (length-take-le _ (at-steps-of .steps-of .result .codes) (codes-fit (entry .args .policy) _ (at-steps-of .steps-of .ensures) .0))
 
 list-orbit-requires : tie.Need-list-orbit-requires
@@ -65,10 +65,10 @@ list-orbit-requires c κs =
     let at-steps-of = c .before .before .before .before in
     let at-if1 = at-steps-of .before in
     let at-guard = at-if1 .before .before in
-    let entry = at-guard .before .before .before .before .before in
+    let entry = at-guard .before .before .before .before .before .before in
     let e = codes-fit (entry .args .policy) _ (at-steps-of .steps-of .ensures) .1 in
-    let r = orbit-ready (entry .args .rows .now) (entry .args .marks .now) (entry .args .output .now) (entry .args .d) _ (guarded at-guard) (passed at-if1) in
-    (r .formed, rw e (steps-are (entry .args .policy)), r .lent .marks, r .lent .output, r .left .below, policy-by (entry .args .policy) _ e)
+    let r = orbit-ready (entry .args .rows .now) (entry .args .marks .now) (entry .args .output .now) (entry .args .flags .now) (entry .args .d) _ (guarded at-guard) (passed at-if1) in
+    (r .map .formed, rw e (steps-are (entry .args .policy)), r .lent .marks, r .lent .output, r .left .below, policy-by (entry .args .policy) _ e)
 
 same-length : tie.Need-same-length
 same-length c = search needs
@@ -83,7 +83,7 @@ returns-2 c =
     let at-steps-of = at-list-orbit .before .before .before .before .before in
     let at-if1 = at-steps-of .before in
     let at-guard = at-if1 .before .before in
-    let entry = at-guard .before .before .before .before .before in
+    let entry = at-guard .before .before .before .before .before .before in
     at-list-orbit .list-orbit .ensures
     ∙ ap (λ (steps : List ℕ). orbitDone (entry .args .rows .now) (entry .args .marks .now) (entry .args .output .now) steps (entry .args .d))
     (codes-fit (entry .args .policy) _ (at-steps-of .steps-of .ensures) .1)

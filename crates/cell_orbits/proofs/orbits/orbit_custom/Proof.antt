@@ -13,13 +13,13 @@ use borrow.Author.Needs.{needs}
 use Rattle.cell_orbits.proofs.orbits.orbit_custom.Statement.{statement}
 use Rattle.cell_orbits.proofs.orbits.orbit_custom.Tie as tie
 
-guarded : (c : tie.After-guard) → c .guard .result ≡ orbitGuard (c .before .before .before .before .before .before .args .rows .now)
-    (c .before .before .before .before .before .before .args .marks .now) (c .before .before .before .before .before .before .args .output .now)
-    (c .before .before .before .before .before .before .args .d)
+guarded : (c : tie.After-guard) →
+    let args = c .before .before .before .before .before .before .before .args in
+    c .guard .result ≡ orbitGuard (args .rows .now) (args .marks .now) (args .output .now) (args .flags .now) (args .d)
 guarded c =
     let at-orbit-loans = c .before in
-    let entry = at-orbit-loans .before .before .before .before .before in
-    c .guard .ensures ∙ ap (λ (l : Loans). guardOf (entry .args .rows .now) l 0 (entry .args .d) (entry .args .d)) (at-orbit-loans .orbit-loans .ensures)
+    let entry = at-orbit-loans .before .before .before .before .before .before in
+    c .guard .ensures ∙ ap (λ (l : Loans). guardOf (entry .args .rows .now) (entry .args .flags .now) l 0 (entry .args .d) (entry .args .d)) (at-orbit-loans .orbit-loans .ensures)
 
 passed : (c : tie.Else1) → isDone (c .before .before .guard .result) ≡ true
 passed c =
@@ -27,9 +27,9 @@ passed c =
     sym (at-is-done .is-done .ensures) ∙ not-false _ (c .if1 .left)
 
 tested : (c : tie.After-custom-test) →
-    let entry = c .before .before .before .before .before .before .before .before .before in
-    c .custom-test .result ≡ andThen (orbitGuard (entry .args .rows .now) (entry .args .marks .now) (entry .args .output .now) (entry .args .d))
-    (customTest (entry .args .betas .now))
+    let entry = c .before .before .before .before .before .before .before .before .before .before in
+    c .custom-test .result ≡ andThen (orbitGuard (entry .args .rows .now) (entry .args .marks .now) (entry .args .output .now)
+    (entry .args .flags .now) (entry .args .d)) (customTest (entry .args .betas .now))
 tested c =
     let at-if1 = c .before in
     let at-guard = at-if1 .before .before in
@@ -76,10 +76,11 @@ list-orbit-requires c κs =
     let at-custom-test = at-if2 .before .before in
     let at-if1 = at-custom-test .before in
     let at-guard = at-if1 .before .before in
-    let entry = at-guard .before .before .before .before .before .before in
-    let r = orbit-ready (entry .args .rows .now) (entry .args .marks .now) (entry .args .output .now) (entry .args .d) _ (guarded at-guard) (passed at-if1) in
+    let entry = at-guard .before .before .before .before .before .before .before in
+    let r = orbit-ready (entry .args .rows .now) (entry .args .marks .now) (entry .args .output .now) (entry .args .flags .now) (entry .args .d) _
+    (guarded at-guard) (passed at-if1) in
     let b = custom-done (entry .args .betas .now) (ap isDone (sym (at-custom-test .custom-test .ensures)) ∙ passed-2 at-if2) in
-    (r .formed, betas-are (entry .args .betas .now) b, r .lent .marks, r .lent .output, r .left .below, refl)
+    (r .map .formed, betas-are (entry .args .betas .now) b, r .lent .marks, r .lent .output, r .left .below, refl)
 
 same-length : tie.Need-same-length
 same-length c = search needs

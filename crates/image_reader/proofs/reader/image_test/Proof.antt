@@ -24,7 +24,7 @@ is-done-requires : tie.Need-is-done-requires
 is-done-requires c κs = search needs
 
 returns : tie.Need-returns
-returns c = image-header _ _ _ _ _ (c .before .before .header-test .ensures) (sym (c .before .is-done .ensures) ∙ not-true _ (c .if1 .taken))
+returns c = image-header _ _ _ _ _ _ (c .before .before .header-test .ensures) (sym (c .before .is-done .ensures) ∙ not-true _ (c .if1 .taken))
 
 word-at-requires : tie.Need-word-at-requires
 word-at-requires c κs = omega (arith, head c .whole)
@@ -42,7 +42,7 @@ returns-2 : tie.Need-returns-2
 returns-2 c =
     let back4 = c .before .before .before .before in
     let at-header-test = back4 .before .before in
-    image-loans _ _ _ _ _ (at-header-test .header-test .ensures) (passed back4) _ _ (c .before .before .before .word-at .ensures)
+    image-loans _ _ _ _ _ _ (at-header-test .header-test .ensures) (passed back4) _ _ (c .before .before .before .word-at .ensures)
     (c .before .before .loans-test .ensures)
     (sym (c .before .is-done2 .ensures) ∙ not-true _ (c .if2 .taken))
 
@@ -63,7 +63,7 @@ returns-3 c =
     let at-word-at = at-loans-test .before in
     let back6 = at-word-at .before in
     let at-header-test = back6 .before .before in
-    image-blocks _ _ _ _ _ (at-header-test .header-test .ensures) (passed back6) _ _ (at-word-at .word-at .ensures) (at-loans-test .loans-test .ensures)
+    image-blocks _ _ _ _ _ _ (at-header-test .header-test .ensures) (passed back6) _ _ (at-word-at .word-at .ensures) (at-loans-test .loans-test .ensures)
     (sym (c .before .before .before .is-done2 .ensures) ∙ not-false _ (c .before .before .if2 .left)) _ _ (c .before .word-at2 .ensures)
     (c .blocks-test .ensures)
 

@@ -18,8 +18,8 @@ tested : (c : tie.After-image-test) →
     let a = c .before .before .before .before .before .before .before .args in
     c .image-test .result ≡ testOf (a .most) (a .bytes .now) (a .flags .now) (a .vertices .now) (a .coordinates .now) (a .rows .now)
 tested c =
-    let entry = c .before .before .before .before .before .before .before in
-    c .image-test .ensures ∙ ap (λ (l : Loans). imageTest (entry .args .most) (entry .args .bytes .now) l (length (entry .args .rows .now)))
+    let a = c .before .before .before .before .before .before .before .args in
+    c .image-test .ensures ∙ ap (λ (l : Loans). imageTest (a .most) (a .bytes .now) (length (a .flags .now)) l (length (a .rows .now)))
     (c .before .reader-loans .ensures)
 
 passed : (c : tie.Else1) → isDone (c .before .before .image-test .result) ≡ true
@@ -96,8 +96,8 @@ copy-words-requires c κs =
       omega (arith, at-word-at .word-at .ensures, fit back15 .rowRoom),
     )
 
-cast-t10 : tie.Need-cast-t10
-cast-t10 c = search needs
+cast-t11 : tie.Need-cast-t11
+cast-t11 c = search needs
 
 same-length : tie.Need-same-length
 same-length c = search needs
@@ -144,7 +144,7 @@ read-within-spec =
     cast-copy-words-2
     mul-copy-words
     copy-words-requires
-    cast-t10
+    cast-t11
     same-length
     same-length-2
     same-length-3

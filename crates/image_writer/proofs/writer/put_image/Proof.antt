@@ -46,7 +46,7 @@ put-flags-requires : tie.Need-put-flags-requires
 put-flags-requires c κs =
     let entry = c .before .before .before .before .before .before .before .before .before .before .before .before .before .before .before in
     let f = fits _ _ _ _ (entry .pre .0) _ (entry .pre .2) in
-    (omega (arith, f .2, c .flag-offset .ensures), entry .pre .0 .flagRoom)
+    (omega (arith, f .2, c .flag-offset .ensures), entry .pre .0 .map .flagged)
 
 cast-vertex-offset : tie.Need-cast-vertex-offset
 cast-vertex-offset c =

@@ -26,7 +26,7 @@ returns c =
     let entry = at-reader-loans .before .before .before .before .before in
     let args = entry .args in
     guard-refused (args .rows .now) (args .flags .now) (args .vertices .now) (args .coordinates .now) _
-    (at-guard .guard .ensures ∙ ap (λ (l : Loans). guardOf (args .rows .now) l 0 0 0) (at-reader-loans .reader-loans .ensures))
+    (at-guard .guard .ensures ∙ ap (λ (l : Loans). guardOf (args .rows .now) (args .flags .now) l 0 0 0) (at-reader-loans .reader-loans .ensures))
     (sym (at-is-done .is-done .ensures) ∙ not-true _ (c .if1 .taken))
 
 shared-slice-read-if2 : tie.Need-shared-slice-read-if2
@@ -38,7 +38,7 @@ shared-slice-read-if2 c =
     let entry = at-reader-loans .before .before .before .before .before in
     let args = entry .args in
     let f = guard-facts (args .rows .now) (args .flags .now) (args .vertices .now) (args .coordinates .now) _
-    (at-guard .guard .ensures ∙ ap (λ (l : Loans). guardOf (args .rows .now) l 0 0 0) (at-reader-loans .reader-loans .ensures))
+    (at-guard .guard .ensures ∙ ap (λ (l : Loans). guardOf (args .rows .now) (args .flags .now) l 0 0 0) (at-reader-loans .reader-loans .ensures))
     (sym (at-is-done .is-done .ensures) ∙ not-false _ (at-if1 .if1 .left)) in
     omega (arith, f .0, f .2)
 
@@ -51,7 +51,7 @@ returns-2 c =
     let entry = at-reader-loans .before .before .before .before .before in
     let args = entry .args in
     flag-refused (args .rows .now) (args .flags .now) (args .vertices .now) (args .coordinates .now) _
-    (at-guard .guard .ensures ∙ ap (λ (l : Loans). guardOf (args .rows .now) l 0 0 0) (at-reader-loans .reader-loans .ensures))
+    (at-guard .guard .ensures ∙ ap (λ (l : Loans). guardOf (args .rows .now) (args .flags .now) l 0 0 0) (at-reader-loans .reader-loans .ensures))
     (sym (at-is-done .is-done .ensures) ∙ not-false _ (at-if1 .if1 .left)) (c .if2 .taken)
 
 points-finite-requires : tie.Need-points-finite-requires
@@ -63,7 +63,7 @@ points-finite-requires c κs =
     let entry = at-reader-loans .before .before .before .before .before in
     let args = entry .args in
     let f = guard-facts (args .rows .now) (args .flags .now) (args .vertices .now) (args .coordinates .now) _
-    (at-guard .guard .ensures ∙ ap (λ (l : Loans). guardOf (args .rows .now) l 0 0 0) (at-reader-loans .reader-loans .ensures))
+    (at-guard .guard .ensures ∙ ap (λ (l : Loans). guardOf (args .rows .now) (args .flags .now) l 0 0 0) (at-reader-loans .reader-loans .ensures))
     (sym (at-is-done .is-done .ensures) ∙ not-false _ (at-if1 .if1 .left)) in
     (f .0, f .1, f .3, f .4)
 
@@ -78,7 +78,7 @@ returns-3 c =
     let entry = at-reader-loans .before .before .before .before .before in
     let args = entry .args in
     point-refused (args .rows .now) (args .flags .now) (args .vertices .now) (args .coordinates .now) _
-    (at-guard .guard .ensures ∙ ap (λ (l : Loans). guardOf (args .rows .now) l 0 0 0) (at-reader-loans .reader-loans .ensures))
+    (at-guard .guard .ensures ∙ ap (λ (l : Loans). guardOf (args .rows .now) (args .flags .now) l 0 0 0) (at-reader-loans .reader-loans .ensures))
     (sym (at-is-done .is-done .ensures) ∙ not-false _ (at-if1 .if1 .left)) (at-if2 .if2 .left)
     (sym (at-points-finite .points-finite .ensures) ∙ not-true _ (c .if3 .taken))
 
@@ -93,7 +93,7 @@ returns-4 c =
     let entry = at-reader-loans .before .before .before .before .before in
     let args = entry .args in
     test-passes (args .rows .now) (args .flags .now) (args .vertices .now) (args .coordinates .now) _
-    (at-guard .guard .ensures ∙ ap (λ (l : Loans). guardOf (args .rows .now) l 0 0 0) (at-reader-loans .reader-loans .ensures))
+    (at-guard .guard .ensures ∙ ap (λ (l : Loans). guardOf (args .rows .now) (args .flags .now) l 0 0 0) (at-reader-loans .reader-loans .ensures))
     (sym (at-is-done .is-done .ensures) ∙ not-false _ (at-if1 .if1 .left)) (at-if2 .if2 .left)
     (sym (at-points-finite .points-finite .ensures) ∙ not-false _ (c .if3 .left))
 

@@ -24,15 +24,15 @@ same-length c = search needs
 
 returns : tie.Need-returns
 unfolding bareLink
-returns c = behind-refused _ _ (tested _ _ _ _ _ (c .before .before .before .no-loans .ensures) (c .before .before .guard .ensures)) _ _
+returns c = behind-refused _ _ (tested _ _ _ _ _ _ (c .before .before .before .no-loans .ensures) (c .before .before .guard .ensures)) _ _
     (sym (c .before .is-done .ensures) ∙ not-true _ (c .if1 .taken))
 
 link-core-requires : tie.Need-link-core-requires
 link-core-requires c κs =
     let at-no-loans = c .before .before .before .before in
-    let entry = at-no-loans .before .before .before in
-    let h = passed _ _ _ _ (tested _ _ _ _ _ (at-no-loans .no-loans .ensures) (c .before .before .before .guard .ensures))
-    (sym (c .before .before .is-done .ensures) ∙ not-false _ (c .before .if1 .left)) in
+    let entry = at-no-loans .before .before .before .before in
+    let h = passed _ _ _ _ _ (tested _ _ _ _ _ _ (at-no-loans .no-loans .ensures) (c .before .before .before .guard .ensures))
+    (sym (c .before .before .is-done .ensures) ∙ not-false _ (c .before .if1 .left)) .real in
     (entry .pre .0, entry .pre .1, omega (arith, h .0 .sized .whole, h .2), omega (arith, h .0 .sized .whole, h .4))
 
 same-length-2 : tie.Need-same-length-2
@@ -46,7 +46,7 @@ returns-2 c =
     let at-guard = at-is-done .before in
     let at-no-loans = at-guard .before in
     ap given (c .before .before .link-core .ensures)
-    ∙ behind-done _ _ (tested _ _ _ _ _ (at-no-loans .no-loans .ensures) (at-guard .guard .ensures)) _ _
+    ∙ behind-done _ _ (tested _ _ _ _ _ _ (at-no-loans .no-loans .ensures) (at-guard .guard .ensures)) _ _
     (sym (at-is-done .is-done .ensures) ∙ not-false _ (at-if1 .if1 .left))
 
 pub bare-link-spec : {M : Type 1} → statement M

@@ -17,9 +17,9 @@ use Rattle.link_run.proofs.links.join.Statement.{statement}
 use Rattle.link_run.proofs.links.join.Tie as tie
 
 -- the code has tested the darts that the definition names
-tests : (l : Link) (rows : List ℕ) (ld rd x : ℕ) (t : Answer) → x ≡ linkSecond l ld rd → t ≡ dartTest (darts rows) 1 ld x →
-    t ≡ dartTest (darts rows) 1 ld (linkSecond l ld rd)
-tests l rows ld rd x t e f = f ∙ ap (dartTest (darts rows) 1 ld) e
+tests : (l : Link) (rows flags : List ℕ) (ld rd x : ℕ) (t : Answer) → x ≡ linkSecond l ld rd → t ≡ dartTest (darts rows) flags 1 ld x →
+    t ≡ dartTest (darts rows) flags 1 ld (linkSecond l ld rd)
+tests l rows flags ld rd x t e f = f ∙ ap (dartTest (darts rows) flags 1 ld) e
 
 link-second-requires : tie.Need-link-second-requires
 link-second-requires c κs = search needs
@@ -33,22 +33,22 @@ is-done-requires c κs = search needs
 returns : tie.Need-returns
 unfolding linkTested
 returns c =
-    let back5 = c .before .before .before .before .before in
+    let back5 = c .before .before .before .before .before .before in
     let entry = back5 in
     let a = entry .args in
-    behind-refused (c .before .before .dart-test .result) _ (tests (a .link) (a .rows .now) (a .ld) (a .rd) _ _
+    behind-refused (c .before .before .dart-test .result) _ (tests (a .link) (a .rows .now) (a .flags .now) (a .ld) (a .rd) _ _
     (c .before .before .before .link-second .ensures) (c .before .before .dart-test .ensures)) _ _
     (sym (c .before .is-done .ensures) ∙ not-true _ (c .if1 .taken))
 
 run-link-requires : tie.Need-run-link-requires
 run-link-requires c κs =
     let at-link-second = c .before .before .before .before in
-    let back6 = at-link-second .before .before in
+    let back6 = at-link-second .before .before .before in
     let entry = back6 in
     let a = entry .args in
-    let ds = are-darts (darts (a .rows .now)) 1 (a .ld) (at-link-second .link-second .result)
+    let ds = are-darts (darts (a .rows .now)) (a .flags .now) 1 (a .ld) (at-link-second .link-second .result)
     (ap isDone (sym (c .before .before .before .dart-test .ensures)) ∙ sym (c .before .before .is-done .ensures) ∙ not-false _ (c .before .if1 .left)) in
-    (entry .pre, ds .0, ds .1)
+    (entry .pre .0, ds .0 .0, ds .1 .0)
 
 same-length : tie.Need-same-length
 same-length c = search needs
@@ -60,12 +60,12 @@ returns-2 c =
     let at-is-done = at-if1 .before in
     let at-dart-test = at-is-done .before in
     let at-link-second = at-dart-test .before in
-    let back9 = at-link-second .before .before in
+    let back9 = at-link-second .before .before .before in
     let entry = back9 in
     let a = entry .args in
     ap given (c .before .before .run-link .ensures ∙ ap (linkOn (a .link) (a .rows .now) (a .ld)) (at-link-second .link-second .ensures) ∙ on-second
     (a .link) (a .rows .now) (a .ld) (a .rd))
-    ∙ behind-done (at-dart-test .dart-test .result) _ (tests (a .link) (a .rows .now) (a .ld) (a .rd) _ _ (at-link-second .link-second .ensures)
+    ∙ behind-done (at-dart-test .dart-test .result) _ (tests (a .link) (a .rows .now) (a .flags .now) (a .ld) (a .rd) _ _ (at-link-second .link-second .ensures)
     (at-dart-test .dart-test .ensures)) _ _
     (sym (at-is-done .is-done .ensures) ∙ not-false _ (at-if1 .if1 .left))
 

@@ -23,14 +23,14 @@ same-length c = search needs
 
 returns : tie.Need-returns
 unfolding threeUnlink
-returns c = behind-refused _ _ (tested _ _ _ _ _ (c .before .before .before .no-loans .ensures) (c .before .before .guard .ensures)) _ _
+returns c = behind-refused _ _ (tested _ _ _ _ _ _ (c .before .before .before .no-loans .ensures) (c .before .before .guard .ensures)) _ _
     (sym (c .before .is-done .ensures) ∙ not-true _ (c .if1 .taken))
 
 three-unlink-on-requires : tie.Need-three-unlink-on-requires
 three-unlink-on-requires c κs =
     let at-no-loans = c .before .before .before .before in
-    let h = passed _ _ _ _ (tested _ _ _ _ _ (at-no-loans .no-loans .ensures) (c .before .before .before .guard .ensures))
-    (sym (c .before .before .is-done .ensures) ∙ not-false _ (c .before .if1 .left)) in
+    let h = passed _ _ _ _ _ (tested _ _ _ _ _ _ (at-no-loans .no-loans .ensures) (c .before .before .before .guard .ensures))
+    (sym (c .before .before .is-done .ensures) ∙ not-false _ (c .before .if1 .left)) .real in
     (h .0, h .1, h .2)
 
 same-length-2 : tie.Need-same-length-2
@@ -44,7 +44,7 @@ returns-2 c =
     let at-guard = at-is-done .before in
     let at-no-loans = at-guard .before in
     ap given (c .before .before .three-unlink-on .ensures)
-    ∙ behind-done _ _ (tested _ _ _ _ _ (at-no-loans .no-loans .ensures) (at-guard .guard .ensures)) _ _
+    ∙ behind-done _ _ (tested _ _ _ _ _ _ (at-no-loans .no-loans .ensures) (at-guard .guard .ensures)) _ _
     (sym (at-is-done .is-done .ensures) ∙ not-false _ (at-if1 .if1 .left))
 
 pub three-unlink-spec : {M : Type 1} → statement M

@@ -2,13 +2,13 @@
 use Prim.Native.Nat.{ℕ}
 use mathlib.Core.Path.{_≡_}
 use Rattle.map_betas.specs.declared.loans.Loans.{Loans}
-use Rattle.map_betas.specs.Guards.{enough, countedAs, commandLoans}
+use Rattle.map_betas.specs.Guards.{countedAs, commandLoans}
 use borrow.Author.Needs.{needs}
 use Rattle.map_betas.proofs.loans.command_loans.Statement.{statement}
 use Rattle.map_betas.proofs.loans.command_loans.Tie as tie
 
 as-loans : (marks queue output needed vertices coordinates k : ℕ) → k ≡ countedAs output needed →
-    _≡_ {A = Loans} (record { marks = marks; queue = queue; output = k; flags = enough; vertices = vertices; coordinates = coordinates })
+    _≡_ {A = Loans} (record { marks = marks; queue = queue; output = k; vertices = vertices; coordinates = coordinates })
     (commandLoans marks queue output needed vertices coordinates)
 as-loans marks queue output needed vertices coordinates k e = rw e
 

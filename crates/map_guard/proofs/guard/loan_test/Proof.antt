@@ -5,28 +5,30 @@ use Rattle.map_guard.proofs.guard.loan_test.Statement.{statement}
 use Rattle.map_guard.proofs.guard.loan_test.Tie as tie
 
 returns : tie.Need-returns
-returns c = loan-1 _ _ (c .if1 .taken)
+returns c = loan-1 _ _ _ (c .if1 .taken)
 
 returns-2 : tie.Need-returns-2
-returns-2 c = loan-2 _ _ (c .before .before .if1 .left) (c .if2 .taken)
+returns-2 c = loan-2 _ _ _ (c .before .before .if1 .left) (c .if2 .taken)
 
 returns-3 : tie.Need-returns-3
 returns-3 c =
     let at-if1 = c .before .before .before .before in
-    loan-3 _ _ (at-if1 .if1 .left) (c .before .before .if2 .left) (c .if3 .taken)
+    loan-3 _ _ _ (at-if1 .if1 .left) (c .before .before .if2 .left) (c .if3 .taken)
 
 returns-4 : tie.Need-returns-4
 returns-4 c =
-    let at-if2 = c .before .before .before .before in
+    let at-if3 = c .before in
+    let at-if2 = at-if3 .before .before in
     let at-if1 = at-if2 .before .before in
-    loan-4 _ _ (at-if1 .if1 .left) (at-if2 .if2 .left) (c .before .before .if3 .left) (c .if4 .taken)
+    loan-4 _ _ _ (at-if1 .if1 .left) (at-if2 .if2 .left) (at-if3 .if3 .left) (c .if4 .taken)
 
 returns-5 : tie.Need-returns-5
 returns-5 c =
-    let at-if3 = c .before .before .before .before in
+    let at-if4 = c .before .before in
+    let at-if3 = at-if4 .before in
     let at-if2 = at-if3 .before .before in
     let at-if1 = at-if2 .before .before in
-    loan-5 _ _ (at-if1 .if1 .left) (at-if2 .if2 .left) (at-if3 .if3 .left) (c .before .before .if4 .left) (c .if5 .taken)
+    loan-5 _ _ _ (at-if1 .if1 .left) (at-if2 .if2 .left) (at-if3 .if3 .left) (at-if4 .if4 .left) (c .if5 .taken)
 
 mul-if6 : tie.Need-mul-if6
 mul-if6 c = search needs
@@ -34,18 +36,18 @@ mul-if6 c = search needs
 returns-6 : tie.Need-returns-6
 returns-6 c =
     let at-if4 = c .before .before .before .before in
-    let at-if3 = at-if4 .before .before in
+    let at-if3 = at-if4 .before in
     let at-if2 = at-if3 .before .before in
     let at-if1 = at-if2 .before .before in
-    loan-6 _ _ (at-if1 .if1 .left) (at-if2 .if2 .left) (at-if3 .if3 .left) (at-if4 .if4 .left) (c .before .before .if5 .left) (c .if6 .taken)
+    loan-6 _ _ _ (at-if1 .if1 .left) (at-if2 .if2 .left) (at-if3 .if3 .left) (at-if4 .if4 .left) (c .before .before .if5 .left) (c .if6 .taken)
 
 returns-7 : tie.Need-returns-7
 returns-7 c =
     let at-if4 = c .before .before .before .before in
-    let at-if3 = at-if4 .before .before in
+    let at-if3 = at-if4 .before in
     let at-if2 = at-if3 .before .before in
     let at-if1 = at-if2 .before .before in
-    loan-none _ _ (at-if1 .if1 .left) (at-if2 .if2 .left) (at-if3 .if3 .left) (at-if4 .if4 .left) (c .before .before .if5 .left) (c .if6 .left)
+    loan-none _ _ _ (at-if1 .if1 .left) (at-if2 .if2 .left) (at-if3 .if3 .left) (at-if4 .if4 .left) (c .before .before .if5 .left) (c .if6 .left)
 
 pub loan-test-spec : {M : Type 1} → statement M
 loan-test-spec =

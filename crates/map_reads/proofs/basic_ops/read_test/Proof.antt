@@ -1,9 +1,9 @@
 -- `basic_ops::read_test` meets its contract: the first of the tests that refuses. Assumes nothing.
-use mathlib.Core.Path.{sym, _∙_}
+use mathlib.Core.Path.{refl, sym, _∙_}
 use borrow.Author.Tests.{not-true, not-false}
 use Rattle.map_betas.specs.Reads.{readTest}
 use Rattle.map_betas.proofs.AnswerLaws.{stops, goes-on}
-use Rattle.map_betas.proofs.ReadLaws.{beta-refused, beta-passed}
+use Rattle.map_betas.proofs.ReadLaws.{range-refused, range-passed, beta-refused, beta-passed}
 use borrow.Author.Needs.{needs}
 use Rattle.map_reads.proofs.basic_ops.read_test.Statement.{statement}
 use Rattle.map_reads.proofs.basic_ops.read_test.Tie as tie
@@ -18,49 +18,34 @@ returns : tie.Need-returns
 unfolding readTest
 returns c = stops _ _ _ (c .before .before .size-test .ensures) (sym (c .before .is-done .ensures) ∙ not-true _ (c .if1 .taken))
 
-dart-test-requires : tie.Need-dart-test-requires
-dart-test-requires c κs = search needs
-
-is-done-requires-2 : tie.Need-is-done-requires-2
-is-done-requires-2 c κs = search needs
-
 returns-2 : tie.Need-returns-2
 unfolding readTest
 returns-2 c =
-    let at-is-done = c .before .before .before .before in
+    let at-if1 = c .before in
+    let at-is-done = at-if1 .before in
     let at-size-test = at-is-done .before in
-    stops _ _ _ (c .before .before .dart-test .ensures) (sym (c .before .is-done2 .ensures) ∙ not-true _ (c .if2 .taken))
-    ∙ goes-on _ _ _ (at-size-test .size-test .ensures) (sym (at-is-done .is-done .ensures) ∙ not-false _ (c .before .before .before .if1 .left))
+    stops _ _ _ (range-refused _ _ (c .if2 .taken)) refl
+    ∙ goes-on _ _ _ (at-size-test .size-test .ensures) (sym (at-is-done .is-done .ensures) ∙ not-false _ (at-if1 .if1 .left))
 
 returns-3 : tie.Need-returns-3
 unfolding readTest
 returns-3 c =
-    let at-if1 = c .before .before .before .before in
+    let at-if1 = c .before .before in
     let at-is-done = at-if1 .before in
     let at-size-test = at-is-done .before in
     beta-refused _ (c .if3 .taken)
-    ∙ goes-on _ _ _ (c .before .before .before .dart-test .ensures) (sym (c .before .before .is-done2 .ensures) ∙ not-false _ (c .before .if2 .left))
+    ∙ goes-on _ _ _ (range-passed _ _ (c .before .if2 .left)) refl
     ∙ goes-on _ _ _ (at-size-test .size-test .ensures) (sym (at-is-done .is-done .ensures) ∙ not-false _ (at-if1 .if1 .left))
 
 returns-4 : tie.Need-returns-4
 unfolding readTest
 returns-4 c =
-    let at-if1 = c .before .before .before .before in
+    let at-if1 = c .before .before in
     let at-is-done = at-if1 .before in
     let at-size-test = at-is-done .before in
     beta-passed _ (c .if3 .left)
-    ∙ goes-on _ _ _ (c .before .before .before .dart-test .ensures) (sym (c .before .before .is-done2 .ensures) ∙ not-false _ (c .before .if2 .left))
+    ∙ goes-on _ _ _ (range-passed _ _ (c .before .if2 .left)) refl
     ∙ goes-on _ _ _ (at-size-test .size-test .ensures) (sym (at-is-done .is-done .ensures) ∙ not-false _ (at-if1 .if1 .left))
 
 pub read-test-spec : {M : Type 1} → statement M
-read-test-spec =
-    tie.close
-    (tie.spec
-    size-test-requires
-    is-done-requires
-    returns
-    dart-test-requires
-    is-done-requires-2
-    returns-2
-    returns-3
-    returns-4)
+read-test-spec = tie.close (tie.spec size-test-requires is-done-requires returns returns-2 returns-3 returns-4)

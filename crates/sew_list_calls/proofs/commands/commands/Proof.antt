@@ -11,13 +11,13 @@ use Rattle.sew_list_calls.proofs.commands.commands.Tie as tie
 
 -- what the code has tested is what the definition tests
 tested : (c : tie.After-lent-test) →
-    let a = c .before .before .before .before .before .before .before .before .before .before .before .args in
-    c .lent-test .result ≡ commandsLent (a .rows .now) (loansFor (a .marks .now) (a .queue .now) (a .output .now) (a .vertices .now) (a .coordinates .now)
+    let a = c .before .before .before .before .before .before .before .before .before .before .before .before .args in
+    c .lent-test .result ≡ commandsLent (a .rows .now) (a .flags .now) (loansFor (a .marks .now) (a .queue .now) (a .output .now) (a .vertices .now) (a .coordinates .now)
     (a .list .now))
 tested c =
-    let entry = c .before .before .before .before .before .before .before .before .before .before .before in
+    let entry = c .before .before .before .before .before .before .before .before .before .before .before .before in
     let a = entry .args in
-    c .lent-test .ensures ∙ ap (commandsLent (a .rows .now)) (c .before .before .command-loans .ensures)
+    c .lent-test .ensures ∙ ap (commandsLent (a .rows .now) (a .flags .now)) (c .before .before .command-loans .ensures)
 
 command-loans-requires : tie.Need-command-loans-requires
 command-loans-requires c κs = search needs
@@ -42,9 +42,9 @@ commands-lent-requires c κs =
     let at-if1 = c .before .before .before .before .before in
     let at-is-done = at-if1 .before in
     let back7 = at-is-done .before in
-    let entry = back7 .before .before .before .before .before .before .before .before .before .before .before in
+    let entry = back7 .before .before .before .before .before .before .before .before .before .before .before .before in
     let a = entry .args in
-    lent-done (a .rows .now) (loansFor (a .marks .now) (a .queue .now) (a .output .now) (a .vertices .now) (a .coordinates .now) (a .list .now))
+    lent-done (a .rows .now) (a .flags .now) (loansFor (a .marks .now) (a .queue .now) (a .output .now) (a .vertices .now) (a .coordinates .now) (a .list .now))
     (ap isDone (sym (tested back7)) ∙ sym (at-is-done .is-done .ensures) ∙ not-false _ (at-if1 .if1 .left))
 
 same-length-2 : tie.Need-same-length-2

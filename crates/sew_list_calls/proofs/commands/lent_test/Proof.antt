@@ -21,7 +21,7 @@ returns c = stops _ _ _ (c .before .before .size-test .ensures) (sym (c .before 
 
 loan-test-requires : tie.Need-loan-test-requires
 loan-test-requires c κs =
-    let entry = c .before .before .before .before in
+    let entry = c .before .before .before .before .before in
     size-done (entry .args .rows .now) (ap isDone (sym (c .before .before .size-test .ensures)) ∙ sym (c .before .is-done .ensures) ∙ not-false _
     (c .if1 .left)) .few
 

@@ -20,7 +20,7 @@ slice-relend-prefix-make-all c = search needs
 slice-aggregate-make-all : tie.Need-slice-aggregate-make-all
 slice-aggregate-make-all c =
     let at-wipe-marks = c .before .before .before .before .before .before .before .before in
-    let back18 = at-wipe-marks .before .before .before .before .before .before .before .before .before .before in
+    let back18 = at-wipe-marks .before .before .before .before .before .before .before .before .before .before .before in
     let entry = back18 in
     sym (wiped-n (darts (entry .args .rows .now)) (entry .args .marks .now) (at-wipe-marks .wipe-marks .last .0) (at-wipe-marks .wipe-marks .ensures))
 
@@ -30,7 +30,7 @@ slice-relend-prefix-make-all-2 c = search needs
 slice-aggregate-make-all-2 : tie.Need-slice-aggregate-make-all-2
 slice-aggregate-make-all-2 c =
     let at-wipe-queue = c .before .before .before .before .before in
-    let back19 = at-wipe-queue .before .before .before .before .before .before .before .before .before .before .before .before .before .before in
+    let back19 = at-wipe-queue .before .before .before .before .before .before .before .before .before .before .before .before .before .before .before in
     let entry = back19 in
     sym (wiped-n (darts (entry .args .rows .now)) (entry .args .queue .now) (at-wipe-queue .wipe-queue .last .0) (at-wipe-queue .wipe-queue .ensures))
 
@@ -38,10 +38,10 @@ make-all-requires : tie.Need-make-all-requires
 make-all-requires c κs =
     let at-wipe-queue = c .before .before .before .before .before .before .before in
     let at-wipe-marks = at-wipe-queue .before .before .before .before in
-    let back21 = at-wipe-marks .before .before .before .before .before .before .before .before .before .before in
+    let back21 = at-wipe-marks .before .before .before .before .before .before .before .before .before .before .before in
     let entry = back21 in
     let pre = entry .pre in
-    (pre .0, wiped-clean _ _ _ _ _ (at-wipe-marks .wipe-marks .ensures) (at-wipe-queue .wipe-queue .ensures), pre .3, pre .4, pre .5)
+    (pre .0, wiped-clean _ _ _ _ _ (at-wipe-marks .wipe-marks .ensures) (at-wipe-queue .wipe-queue .ensures), pre .3, pre .4, pre .5, pre .6)
 
 same-length : tie.Need-same-length
 same-length c = search needs
@@ -63,7 +63,7 @@ returns c =
     let at-make-all = c .before .before .before .before .before .before .before .before .before .before in
     let at-wipe-queue = at-make-all .before .before .before .before .before .before .before .before in
     let at-wipe-marks = at-wipe-queue .before .before .before .before in
-    let back32 = at-wipe-marks .before .before .before .before .before .before .before .before .before .before in
+    let back32 = at-wipe-marks .before .before .before .before .before .before .before .before .before .before .before in
     let entry = back32 in
     let a = entry .args in
     let n : ℕ = darts (a .rows .now) in

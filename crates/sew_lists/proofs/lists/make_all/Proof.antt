@@ -10,18 +10,18 @@ use Rattle.sew_lists.proofs.lists.make_all.Statement.{statement}
 use Rattle.sew_lists.proofs.lists.make_all.Tie as tie
 
 abbrev Inv-loop : tie.InvT-loop
-Inv-loop rows₀ marks₀ queue₀ output₀ vertices coordinates plan₀ list count k₀ written₀ rows marks queue output plan k written =
-    Making (run vertices coordinates) list rows₀ output₀ plan₀ k (turn written rows output plan) × (k ≤ count) × (marks ≡ marks₀) × (queue ≡ queue₀)
+Inv-loop rows₀ marks₀ queue₀ output₀ flags vertices coordinates plan₀ list count k₀ written₀ rows marks queue output plan k written =
+    Making (run flags vertices coordinates) list rows₀ output₀ plan₀ k (turn written rows output plan) × (k ≤ count) × (marks ≡ marks₀) × (queue ≡ queue₀)
 
 abbrev μ-loop : tie.MeasureT-loop
-μ-loop rows₀ marks₀ queue₀ output₀ vertices coordinates plan₀ list count k₀ written₀ rows marks queue output plan k written = count - k
+μ-loop rows₀ marks₀ queue₀ output₀ flags vertices coordinates plan₀ list count k₀ written₀ rows marks queue output plan k written = count - k
 
 loop-holds : tie.Need-loop-holds Inv-loop μ-loop
 loop-holds c =
-    let back8 = c .before .before .before .before .before .before .before .before in
+    let back8 = c .before .before .before .before .before .before .before .before .before in
     let entry = back8 in
     let a = entry .args in (
-      making-starts (a .vertices .now) (a .coordinates .now) (a .list .now) (a .rows .now) (a .output .now) (a .plan .now)
+      making-starts (a .flags .now) (a .vertices .now) (a .coordinates .now) (a .list .now) (a .rows .now) (a .output .now) (a .plan .now)
           (entry .pre .0),
       omega arith,
       refl,
@@ -32,7 +32,7 @@ make-one-requires : tie.Need-make-one-requires Inv-loop μ-loop
 make-one-requires c κs =
     let at-loop-test = c .before .before .before .before .before in
     let at-loop = at-loop-test .before in
-    let back15 = at-loop .before .before .before .before .before .before .before .before .before in
+    let back15 = at-loop .before .before .before .before .before .before .before .before .before .before in
     let entry = back15 in
     let a = entry .args in
     let l = at-loop .loop in
@@ -48,13 +48,14 @@ make-one-requires c κs =
       omega (arith, more),
       omega (arith, more, out, pre .4),
       m .fits,
+      omega (arith, long, pre .5),
     )
 
 add-k : tie.Need-add-k Inv-loop μ-loop
 add-k c =
     let at-loop-test = c .before .before .before .before .before .before .before .before .before .before .before .before .before .before .before .before in
-    let at-good = at-loop-test .before .before .before .before .before .before .before .before .before .before in
-    omega (arith, at-loop-test .loop-test .taken, at-good .good .1 .1 .1 .1 .1 .1 .1 .0)
+    let at-good = at-loop-test .before .before .before .before .before .before .before .before .before .before .before in
+    omega (arith, at-loop-test .loop-test .taken, at-good .good .1 .1 .1 .1 .1 .1 .1 .1 .0)
 
 loop-less : tie.Need-loop-less Inv-loop μ-loop
 loop-less c =
@@ -66,7 +67,7 @@ loop-again c =
     let at-make-one = c .before .before .before .before .before .before .before .before .before .before in
     let at-loop-test = at-make-one .before .before .before .before .before .before in
     let at-loop = at-loop-test .before in
-    let back26 = at-loop .before .before .before .before .before .before .before .before .before in
+    let back26 = at-loop .before .before .before .before .before .before .before .before .before .before in
     let entry = back26 in
     let a = entry .args in
     let l = at-loop .loop in
@@ -74,7 +75,7 @@ loop-again c =
     let more = at-loop-test .loop-test .taken in
     let out = m .output-long in
     let e = at-make-one .make-one .ensures in (
-      making-turn (a .vertices .now) (a .coordinates .now) (a .list .now) (a .rows .now) (a .output .now) (a .plan .now) (l .k) (l .written) (l .rows)
+      making-turn (a .flags .now) (a .vertices .now) (a .coordinates .now) (a .list .now) (a .rows .now) (a .output .now) (a .plan .now) (l .k) (l .written) (l .rows)
           (l .output) (l .plan) m (omega (arith, more)) (omega (arith, more, out, entry .pre .4)) _ (e .0),
       omega (arith, more),
       e .1 .0 ∙ l .inv .2,
@@ -98,14 +99,14 @@ same-length-5 c = c .before .loop .inv .0 .plan-long
 
 returns : tie.Need-returns Inv-loop μ-loop
 returns c =
-    let back10 = c .before .before .before .before .before .before .before .before .before .before in
+    let back10 = c .before .before .before .before .before .before .before .before .before .before .before in
     let entry = back10 in
     let a = entry .args in
     let l = c .before .loop in
     let over = c .loop-test .left in
     let in-list = l .inv .1 in
     let out = l .inv .0 .output-long in (
-      making-ends (a .vertices .now) (a .coordinates .now) (a .list .now) (a .rows .now) (a .output .now) (a .plan .now) (l .k) (l .written) (l .rows)
+      making-ends (a .flags .now) (a .vertices .now) (a .coordinates .now) (a .list .now) (a .rows .now) (a .output .now) (a .plan .now) (l .k) (l .written) (l .rows)
           (l .output) (l .plan) (l .inv .0) (omega (arith, over, in-list)) (omega (arith, in-list, out, entry .pre .4)),
       (l .inv .2, l .inv .3),
     )

@@ -60,9 +60,9 @@ put-answer-requires : tie.Need-put-answer-requires
 put-answer-requires c κs =
     let at-run-command = c .before .before .before .before .before .before .before .before .before in
     let back8 = at-run-command .before .before .before .before .before .before .before .before in
-    let entry = back8 .before .before .before .before .before .before .before .before in
+    let entry = back8 .before .before .before .before .before .before .before .before .before in
     let a = entry .args in
-    (entry .pre .5, answer-fits (a .vertices .now) (a .coordinates .now) _ _ _ (a .rows .now) _ (entry .pre .0) _ _ _ (at-run-command .run-command .ensures .0))
+    (entry .pre .5, answer-fits (a .flags .now) (a .vertices .now) (a .coordinates .now) _ _ _ (a .rows .now) _ (entry .pre .0) _ _ _ (at-run-command .run-command .ensures .0))
 
 count-of-requires : tie.Need-count-of-requires
 count-of-requires c κs = search needs
@@ -71,15 +71,15 @@ add-result : tie.Need-add-result
 add-result c =
     let at-run-command = c .before .before .before .before .before .before .before .before .before .before .before .before .before in
     let back8 = at-run-command .before .before .before .before .before .before .before .before in
-    let entry = back8 .before .before .before .before .before .before .before .before in
+    let entry = back8 .before .before .before .before .before .before .before .before .before in
     let a = entry .args in
     let e = at-run-command .run-command .ensures in
     let p : ℕ = width * a .written in
-    let r = answer-room (a .vertices .now) (a .coordinates .now) _ _ _ (a .rows .now) (midOf p (length (a .plan .now) - p) (a .plan .now))
+    let r = answer-room (a .flags .now) (a .vertices .now) (a .coordinates .now) _ _ _ (a .rows .now) (midOf p (length (a .plan .now) - p) (a .plan .now))
     (entry .pre .0) _ _ _ (e .0) in
     let l : length (midOf p (length (a .plan .now) - p) (a .plan .now)) ≡ length (a .plan .now) - p =
     ap length (rest-is (a .plan .now) p (entry .pre .6)) ∙ length-drop p (a .plan .now) in
-    omega (arith, r, l, c .count-of .ensures, entry .pre .6, entry .good .1 .1 .1 .1 .1 .1 .0 .0)
+    omega (arith, r, l, c .count-of .ensures, entry .pre .6, entry .good .1 .1 .1 .1 .1 .1 .1 .0 .0)
 
 same-length : tie.Need-same-length
 same-length c = search needs
@@ -100,10 +100,10 @@ returns : tie.Need-returns
 returns c =
     let at-run-command = c .before .before .before .before .before .before .before .before .before .before .before .before .before in
     let back8 = at-run-command .before .before .before .before .before .before .before .before in
-    let entry = back8 .before .before .before .before .before .before .before .before in
+    let entry = back8 .before .before .before .before .before .before .before .before .before in
     let a = entry .args in
     let e = at-run-command .run-command .ensures in (
-      turn-is (run (a .vertices .now) (a .coordinates .now)) (a .list .now) (a .rows .now) (a .output .now) (a .plan .now) (a .k) (a .written)
+      turn-is (run (a .flags .now) (a .vertices .now) (a .coordinates .now)) (a .list .now) (a .rows .now) (a .output .now) (a .plan .now) (a .k) (a .written)
           (entry .pre .6) _ _ _ _ _ (e .0) (c .before .before .before .put-answer .ensures) (c .count-of .ensures),
       e .1,
     )

@@ -15,13 +15,14 @@ use Rattle.sew_tested.proofs.tested.operate.Statement.{statement}
 use Rattle.sew_tested.proofs.tested.operate.Tie as tie
 
 guarded : (c : tie.After-guard) →
-    let entry = c .before .before .before .before .before .before .before .before .before in
-    c .guard .result ≡ guardOf (entry .args .rows .now) (loansOf (entry .args .operation) (length (entry .args .marks .now)) (length
+    let entry = c .before .before .before .before .before .before .before .before .before .before in
+    c .guard .result ≡ guardOf (entry .args .rows .now) (entry .args .flags .now) (loansOf (entry .args .operation) (length (entry .args .marks .now)) (length
     (entry .args .queue .now)) (length (entry .args .vertices .now)) (length (entry .args .coordinates .now))) 1 (entry .args .ld) (entry .args .rd)
 guarded c =
     let at-loans-of = c .before .before in
-    let entry = at-loans-of .before .before .before .before .before .before .before in
-    c .guard .ensures ∙ ap (λ (l : Loans). guardOf (entry .args .rows .now) l 1 (entry .args .ld) (entry .args .rd)) (at-loans-of .loans-of .ensures)
+    let entry = at-loans-of .before .before .before .before .before .before .before .before in
+    c .guard .ensures ∙ ap (λ (l : Loans). guardOf (entry .args .rows .now) (entry .args .flags .now) l 1 (entry .args .ld) (entry .args .rd))
+    (at-loans-of .loans-of .ensures)
 
 passed : (c : tie.Else1) → isDone (c .before .before .guard .result) ≡ true
 passed c =
@@ -51,16 +52,16 @@ run-wiped-requires : tie.Need-run-wiped-requires
 run-wiped-requires c κs =
     let at-if1 = c .before .before .before .before in
     let at-guard = at-if1 .before .before in
-    let entry = at-guard .before .before .before .before .before .before .before .before .before in
+    let entry = at-guard .before .before .before .before .before .before .before .before .before .before in
     let op = entry .args .operation in
     let marks = length (entry .args .marks .now) in
     let queue = length (entry .args .queue .now) in
     let vertices = length (entry .args .vertices .now) in
     let coordinates = length (entry .args .coordinates .now) in
-    let r = ready (entry .args .rows .now) (loansOf op marks queue vertices coordinates) 1 (entry .args .ld) (entry .args .rd)
-    (ap isDone (sym (guarded at-guard)) ∙ passed at-if1) in
+    let r = ready (entry .args .rows .now) (entry .args .flags .now) (loansOf op marks queue vertices coordinates) 1 (entry .args .ld)
+    (entry .args .rd) (ap isDone (sym (guarded at-guard)) ∙ passed at-if1) in
     let l = r .lent in (
-      r .formed,
+      r .map .formed,
       lent-marks _ marks queue vertices coordinates op l,
       lent-queue _ marks queue vertices coordinates op l,
       r .left,

@@ -35,10 +35,10 @@ returns : tie.Need-returns
 returns c =
     let at-command = c .before .before .before .before .before in
     let at-command-of = at-command .before .before in
-    let back14 = at-command-of .before .before .before .before .before .before .before in
+    let back14 = at-command-of .before .before .before .before .before .before .before .before in
     let entry = back14 in
     let a = entry .args in (
-      run-is (a .vertices .now) (a .coordinates .now) (a .operation) (a .ld) (a .rd) (a .rows .now) (a .plan .now) _
+      run-is (a .flags .now) (a .vertices .now) (a .coordinates .now) (a .operation) (a .ld) (a .rd) (a .rows .now) (a .plan .now) _
           (Links (at-command .command .given .0 .0)) _
           (at-command-of .command-of .ensures) (at-command .command .given .1)
           (ap (λ (o : Outcome (List ℕ)). onRows o (a .plan .now)) (c .before .before .join .ensures)),
@@ -62,11 +62,11 @@ returns-2 c =
     let at-sew = c .before .before .before .before .before .before .before .before in
     let at-command2 = at-sew .before .before .before .before .before .before in
     let at-command-of = at-command2 .before .before in
-    let back23 = at-command-of .before .before .before .before .before .before .before in
+    let back23 = at-command-of .before .before .before .before .before .before .before .before in
     let entry = back23 in
     let a = entry .args in
     let e = at-sew .sew .ensures in (
-      run-is (a .vertices .now) (a .coordinates .now) (a .operation) (a .ld) (a .rd) (a .rows .now) (a .plan .now) _
+      run-is (a .flags .now) (a .vertices .now) (a .coordinates .now) (a .operation) (a .ld) (a .rd) (a .rows .now) (a .plan .now) _
           (Sews (at-command2 .command2 .given .0 .0)) _
           (at-command-of .command-of .ensures) (at-command2 .command2 .given .1) (e .0),
       e .1,
@@ -74,10 +74,10 @@ returns-2 c =
 
 returns-3 : tie.Need-returns-3
 returns-3 c =
-    let back9 = c .before .before .before .before .before .before .before .before .before in
+    let back9 = c .before .before .before .before .before .before .before .before .before .before in
     let entry = back9 in
     let a = entry .args in (
-      run-is (a .vertices .now) (a .coordinates .now) (a .operation) (a .ld) (a .rd) (a .rows .now) (a .plan .now) _ Unknown _
+      run-is (a .flags .now) (a .vertices .now) (a .coordinates .now) (a .operation) (a .ld) (a .rd) (a .rows .now) (a .plan .now) _ Unknown _
           (c .before .before .command-of .ensures)
           (c .enum-told .given .1) refl,
       (refl, refl),

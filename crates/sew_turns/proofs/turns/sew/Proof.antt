@@ -20,10 +20,10 @@ is-done-requires c κs = search needs
 
 returns : tie.Need-returns
 returns c =
-    let back10 = c .before .before .before .before .before .before .before .before .before .before in
+    let back10 = c .before .before .before .before .before .before .before .before .before .before .before in
     let entry = back10 in
     let a = entry .args in (
-      tested-refused (a .operation) (a .vertices .now) (a .coordinates .now) (a .ld) (a .rd) (a .rows .now) (a .plan .now) _
+      tested-refused (a .operation) (a .flags .now) (a .vertices .now) (a .coordinates .now) (a .ld) (a .rd) (a .rows .now) (a .plan .now) _
           (c .before .before .before .sew-second .ensures)
           (c .before .before .dart-test .result) (c .before .before .dart-test .ensures) (sym (c .before .is-done .ensures) ∙ not-true _ (c .if1 .taken)),
       (refl, refl),
@@ -35,12 +35,12 @@ run-requires c κs =
     let at-is-done = at-if1 .before in
     let at-dart-test = at-is-done .before in
     let at-sew-second = at-dart-test .before in
-    let back14 = at-sew-second .before .before .before .before .before .before .before in
+    let back14 = at-sew-second .before .before .before .before .before .before .before .before in
     let entry = back14 in
     let a = entry .args in
-    let ds = are-darts (darts (a .rows .now)) 1 (a .ld) (at-sew-second .sew-second .result)
+    let ds = are-darts (darts (a .rows .now)) (a .flags .now) 1 (a .ld) (at-sew-second .sew-second .result)
     (ap isDone (sym (at-dart-test .dart-test .ensures)) ∙ sym (at-is-done .is-done .ensures) ∙ not-false _ (at-if1 .if1 .left)) in
-    (entry .pre .0, ds .0, ds .1, entry .pre .1, slots-are (a .operation) _ _ _ (entry .pre .2) (entry .pre .3))
+    (entry .pre .0, ds .0 .0, ds .1 .0, entry .pre .1, slots-are (a .operation) _ _ _ (entry .pre .2) (entry .pre .3))
 
 same-length : tie.Need-same-length
 same-length c = search needs
@@ -61,11 +61,11 @@ returns-2 c =
     let at-is-done = at-if1 .before in
     let at-dart-test = at-is-done .before in
     let at-sew-second = at-dart-test .before in
-    let back23 = at-sew-second .before .before .before .before .before .before .before in
+    let back23 = at-sew-second .before .before .before .before .before .before .before .before in
     let entry = back23 in
     let a = entry .args in
     let e = at-run .run .ensures in (
-      tested-done (a .operation) (a .vertices .now) (a .coordinates .now) (a .ld) (a .rd) (a .rows .now) (a .plan .now) _ (at-sew-second .sew-second .ensures)
+      tested-done (a .operation) (a .flags .now) (a .vertices .now) (a .coordinates .now) (a .ld) (a .rd) (a .rows .now) (a .plan .now) _ (at-sew-second .sew-second .ensures)
           (at-dart-test .dart-test .result) (at-dart-test .dart-test .ensures) _ (sym (at-is-done .is-done .ensures) ∙ not-false _ (at-if1 .if1 .left)) (e .0),
       e .1,
     )

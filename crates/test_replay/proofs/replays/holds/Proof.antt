@@ -8,6 +8,9 @@ use Rattle.test_replay.proofs.replays.holds.Tie as tie
 rows-before-requires : tie.Need-rows-before-requires
 rows-before-requires c κs = search needs
 
+flags-requires : tie.Need-flags-requires
+flags-requires c κs = search needs
+
 darts-requires : tie.Need-darts-requires
 darts-requires c κs = search needs
 
@@ -26,11 +29,17 @@ slice-aggregate-replayed c = sym (length-take-le _ _ (array-borrow-prefix-rows (
 slice-aggregate-replayed-2 : tie.Need-slice-aggregate-replayed-2
 slice-aggregate-replayed-2 c = search needs
 
+array-share-prefix-lent : tie.Need-array-share-prefix-lent
+array-share-prefix-lent c = search needs
+
+slice-aggregate-replayed-3 : tie.Need-slice-aggregate-replayed-3
+slice-aggregate-replayed-3 c = sym (length-take-le _ _ (array-share-prefix-lent (c .before)))
+
 array-borrow-prefix-plan : tie.Need-array-borrow-prefix-plan
 array-borrow-prefix-plan c = search needs
 
-slice-aggregate-replayed-3 : tie.Need-slice-aggregate-replayed-3
-slice-aggregate-replayed-3 c = sym (length-take-le _ _ (array-borrow-prefix-plan (c .before)))
+slice-aggregate-replayed-4 : tie.Need-slice-aggregate-replayed-4
+slice-aggregate-replayed-4 c = sym (length-take-le _ _ (array-borrow-prefix-plan (c .before)))
 
 replayed-requires : tie.Need-replayed-requires
 replayed-requires c κs = search needs
@@ -43,13 +52,16 @@ holds-spec =
     tie.close
     (tie.spec
     rows-before-requires
+    flags-requires
     darts-requires
     mul-m
     room-requires
     array-borrow-prefix-rows
     slice-aggregate-replayed
     slice-aggregate-replayed-2
-    array-borrow-prefix-plan
+    array-share-prefix-lent
     slice-aggregate-replayed-3
+    array-borrow-prefix-plan
+    slice-aggregate-replayed-4
     replayed-requires
     returns)

@@ -1,9 +1,9 @@
--- `basic_ops::free_at` meets its contract: each return is one of the cases of `freeAt`. Assumes nothing.
+-- `free::free_at` meets its contract: each return is one of the cases of `freeAt`. Assumes nothing.
 use native.Mathlib.Omega.{arith}
-use Rattle.map_betas.proofs.ReadLaws.{free-0, free-1, free-2, free-3}
+use Rattle.map_betas.proofs.FreeLaws.{free-0, free-1, free-2, free-3}
 use borrow.Author.Needs.{needs}
-use Rattle.map_reads.proofs.basic_ops.free_at.Statement.{statement}
-use Rattle.map_reads.proofs.basic_ops.free_at.Tie as tie
+use Rattle.map_breaches.proofs.free.free_at.Statement.{statement}
+use Rattle.map_breaches.proofs.free.free_at.Tie as tie
 
 beta-at-requires : tie.Need-beta-at-requires
 beta-at-requires c κs = search needs

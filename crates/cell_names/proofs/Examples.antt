@@ -66,18 +66,18 @@ unfolding triangle badSize breaks breachAt freeAt unused bound firstBreach mapTe
 bound-call = refl
 
 id-call : idCall triangle (7 ∷ 7 ∷ 7 ∷ 7 ∷ 7 ∷ []) (8 ∷ 8 ∷ 8 ∷ 8 ∷ []) used Volume 3 ≡ outcome (Done 1 0) (0 ∷ 0 ∷ 0 ∷ 0 ∷ 7 ∷ [], 0 ∷ 0 ∷ 0 ∷ 0 ∷ [])
-unfolding triangle image mem add visit search orbit leastFrom least ident cellsFrom cellsBy badSize breaks breachAt freeAt unused bound firstBreach mapTest loanTest noDart mapGuard guardOf
-    idCall
+unfolding triangle image mem add visit search orbit leastFrom least ident cellsFrom cellsBy badSize breaks breachAt freeAt unused bound firstBreach mapTest
+    loanTest noDart mapGuard guardOf idCall
 id-call = refl
 
 face-call : idCall triangle (7 ∷ 7 ∷ 7 ∷ 7 ∷ []) (8 ∷ 8 ∷ 8 ∷ 8 ∷ []) used Face 2 ≡ outcome (Done 1 0) (0 ∷ 0 ∷ 0 ∷ 0 ∷ [], 0 ∷ 0 ∷ 0 ∷ 0 ∷ [])
-unfolding triangle image mem add fresh insert lower turn leg forward backward faceWalk faceId badSize breaks breachAt freeAt unused bound firstBreach mapTest loanTest noDart
-    mapGuard guardOf idCall
+unfolding triangle image mem add fresh insert lower turn leg forward backward faceWalk faceId badSize breaks breachAt freeAt unused bound firstBreach mapTest
+    loanTest noDart mapGuard guardOf idCall
 face-call = refl
 
 null-call : idCall triangle (7 ∷ 7 ∷ 7 ∷ 7 ∷ []) (8 ∷ 8 ∷ 8 ∷ 8 ∷ []) used Edge 0 ≡ outcome (Done 0 0) (0 ∷ 0 ∷ 0 ∷ 0 ∷ [], 0 ∷ 0 ∷ 0 ∷ 0 ∷ [])
-unfolding triangle image mem add visit search orbit leastFrom least ident cellsFrom cellsBy badSize breaks breachAt freeAt unused bound firstBreach mapTest loanTest noDart mapGuard guardOf
-    idCall
+unfolding triangle image mem add visit search orbit leastFrom least ident cellsFrom cellsBy badSize breaks breachAt freeAt unused bound firstBreach mapTest
+    loanTest noDart mapGuard guardOf idCall
 null-call = refl
 
 -- refused: the second loan, the fourth, the map, the dart; marks and queue stay as they were

@@ -42,7 +42,8 @@ short-call : orbitCall triangle (7 ∷ 7 ∷ 7 ∷ []) [] used FaceLinear 9 ≡ 
 unfolding triangle badSize loanTest mapGuard guardOf orbitCall
 short-call = refl
 
-dart-call : customCall triangle (7 ∷ 7 ∷ 7 ∷ 7 ∷ []) (9 ∷ 9 ∷ 9 ∷ 9 ∷ []) used (4 ∷ []) 4 ≡ outcome (Refused (BadDart 1)) (7 ∷ 7 ∷ 7 ∷ 7 ∷ [], 9 ∷ 9 ∷ 9 ∷ 9 ∷ [])
+dart-call : customCall triangle (7 ∷ 7 ∷ 7 ∷ 7 ∷ []) (9 ∷ 9 ∷ 9 ∷ 9 ∷ []) used (4 ∷ []) 4
+    ≡ outcome (Refused (BadDart 1)) (7 ∷ 7 ∷ 7 ∷ 7 ∷ [], 9 ∷ 9 ∷ 9 ∷ 9 ∷ [])
 unfolding triangle badSize breaks breachAt freeAt unused bound firstBreach mapTest loanTest noDart mapGuard guardOf customTest
     customCall
 dart-call = refl

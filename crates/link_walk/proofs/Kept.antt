@@ -151,7 +151,8 @@ module _ (rows flags : List ℕ) where
   bare-link-unmoved i ld rd =
       tested rows (guardOf rows flags noLoans 1 ld rd) _
       (or-else rows (not (eqb (beta rows i ld) 0)) _ _ (here rows (Refused (NonFreeBase i ld rd)))
-      (or-else rows (not (eqb (beta rows (opp i) rd) 0) || leb 2 i && eqb ld rd) _ _ (here rows (Refused (NonFreeImage (opp i) ld rd))) (done rows 0 (put rows i ld rd))))
+      (or-else rows (not (eqb (beta rows (opp i) rd) 0) || leb 2 i && eqb ld rd) _ _ (here rows (Refused (NonFreeImage (opp i) ld rd)))
+      (done rows 0 (put rows i ld rd))))
 
   pub bare-unlink-unmoved : (i ld : ℕ) → Unmoved rows (bareUnlink rows flags i ld)
   unfolding bareUnlink unlinkCore

@@ -1,5 +1,6 @@
 -- What a walk leaves, and what sets it back.
---   Walked, walked   a walk leaves a map of as many darts, links no dart that was free, and its pairs, set back in the same order, give the rows that it began with
+--   Walked, walked   a walk leaves a map of as many darts and links no dart that was free; its pairs, set back in the same order, give the rows that it
+--                    began with
 --   again-on         the same with a pair before the walk
 --   turn             a turn of the loop that walks
 --   back-inside, back-next, undone-none   a turn of the loop that sets back, and its end

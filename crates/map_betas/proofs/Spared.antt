@@ -80,7 +80,8 @@ pub next-linked : (rows : List ℕ) (i d : ℕ) → WellFormed rows → i < 4 �
 next-linked rows i d w h n f =
     by-cases (ℕ-discrete (beta rows i d) 0) (λ z. z) (λ m. absurd (n (sym (w .back i d h m) ∙ f (opp i) (opp-lt i h))))
 
-pub kept-map : (a b : ℕ) (rows flags rows′ : List ℕ) → Map rows flags → unused flags a ≡ false → unused flags b ≡ false → Keeps a b rows rows′ → Stays flags rows rows′
+pub kept-map : (a b : ℕ) (rows flags rows′ : List ℕ) → Map rows flags → unused flags a ≡ false → unused flags b ≡ false → Keeps a b rows rows′ →
+    Stays flags rows rows′
 kept-map a b rows flags rows′ m ua ub k =
     let same : darts rows′ ≡ darts rows = ap (λ (n : ℕ). n / 4) (k .1) in
     let l = m .flagged in

@@ -72,7 +72,8 @@ no-command operation a b c d e f g h i j k =
 module _ (lent : Lending) (rows plan : List ℕ) where
   pub sew-call : (o : Operation) (ld rd : ℕ) → sewCallOf o lent rows plan ld rd ≡
       sewCall
-      (guardOf rows (lent .flags) (loansOf o (length (lent .marks)) (length (lent .queue)) (length (lent .vertices)) (length (lent .coordinates))) 1 ld (sewSecond o ld rd))
+      (guardOf rows (lent .flags) (loansOf o (length (lent .marks)) (length (lent .queue)) (length (lent .vertices)) (length (lent .coordinates))) 1 ld
+      (sewSecond o ld rd))
       rows (lent .marks) (lent .queue) plan (workOf o (lent .vertices) (lent .coordinates) rows ld rd)
   unfolding oneSew oneUnsew twoSew twoUnsew threeUnsew
   sew-call OneSew ld rd = refl
@@ -123,7 +124,8 @@ module _ (lent : Lending) (rows plan : List ℕ) where
         ∙ behind-darts (dartTest (darts rows) (lent .flags) 1 ld (sewSecond o ld rd)) x
     call-on-map Unknown operation ld rd = refl
 
-    pub called-on-map : (operation ld rd : ℕ) → called lent operation ld rd rows plan ≡ run (lent .flags) (lent .vertices) (lent .coordinates) operation ld rd rows plan
+    pub called-on-map : (operation ld rd : ℕ) →
+        called lent operation ld rd rows plan ≡ run (lent .flags) (lent .vertices) (lent .coordinates) operation ld rd rows plan
     unfolding called run
     called-on-map operation ld rd = call-on-map (commandOf operation) operation ld rd
 
@@ -238,12 +240,13 @@ module _ (o : Operation) (flags vertices : List ℕ) (coordinates : List Float) 
   tested-done s d q =
       q ∙ ap (λ (y : ℕ). sewn rows plan (workOf o vertices coordinates rows ld y)) e
       ∙ ap (sewn rows plan) (work-second o vertices coordinates rows ld rd)
-      ∙ sym (ap (λ (b : Bool). cond b (sewn rows plan (workOf o vertices coordinates rows ld rd)) (leaves (dartTest (darts rows) flags 1 ld (sewSecond o ld rd)) rows
-      plan)) (ap isDone (sym tests) ∙ d))
+      ∙ sym (ap (λ (b : Bool). cond b (sewn rows plan (workOf o vertices coordinates rows ld rd)) (leaves (dartTest (darts rows) flags 1 ld
+      (sewSecond o ld rd)) rows plan)) (ap isDone (sym tests) ∙ d))
 
 -- what the code's match has found
-pub run-is : (flags vertices : List ℕ) (coordinates : List Float) (operation ld rd : ℕ) (rows plan : List ℕ) (c k : Command) (s : Sewn) → c ≡ commandOf operation →
-    c ≡ k → s ≡ coreOf k flags vertices coordinates operation ld rd rows plan → s ≡ run flags vertices coordinates operation ld rd rows plan
+pub run-is : (flags vertices : List ℕ) (coordinates : List Float) (operation ld rd : ℕ) (rows plan : List ℕ) (c k : Command) (s : Sewn) →
+    c ≡ commandOf operation → c ≡ k → s ≡ coreOf k flags vertices coordinates operation ld rd rows plan →
+    s ≡ run flags vertices coordinates operation ld rd rows plan
 unfolding run
 run-is flags vertices coordinates operation ld rd rows plan c k s e f h =
     h ∙ ap (λ (x : Command). coreOf x flags vertices coordinates operation ld rd rows plan) (sym f ∙ e)

@@ -123,7 +123,8 @@ module _ (lent : Lending) (rows : List ℕ) (map : Map rows (lent .flags)) (long
         (made (called lent) ys (first .rows) left)
 
 -- demand 3 in a list: the next command is the 3-unlink, whatever stands in its ignored place
-module _ (lent : Lending) (rows plan : List ℕ) (ld rd : ℕ) (done : isDone (threeLink rows (lent .flags) ld rd .answer) ≡ true) (ignored : ℕ) (list : List ℕ) where
+module _ (lent : Lending) (rows plan : List ℕ) (ld rd : ℕ) (done : isDone (threeLink rows (lent .flags) ld rd .answer) ≡ true)
+    (ignored : ℕ) (list : List ℕ) where
   real : Used rows (lent .flags) ld rd
   unfolding threeLink
   real = through rows (lent .flags) ld rd (given (threeLinkOn rows ld rd)) done .0
@@ -189,8 +190,8 @@ module _ (rows marks queue output flags vertices : List ℕ) (coordinates : List
       let size : sizeTest rows ≡ pass = simp (size-good rows (able .map .formed .sized)) in
       let out : darts rows ≤ cond (leb (length list / 3) (length output / answerWidth)) 3145728 0 = rw fits (omega arith) in
       let long : loanTest (darts rows) (length flags) (loansFor marks queue output vertices coordinates list) ≡ pass =
-      sym (loan-none (darts rows) (length flags) (loansFor marks queue output vertices coordinates list) (l .marks) (l .queue) out (able .map .flagged) (l .vertices)
-      (l .coordinates)) in
+      sym (loan-none (darts rows) (length flags) (loansFor marks queue output vertices coordinates list) (l .marks) (l .queue) out
+      (able .map .flagged) (l .vertices) (l .coordinates)) in
       λ t. andThen (size t) (long t)
 
   pub commands-made : Able rows marks queue output flags vertices coordinates list → commands rows marks queue output flags vertices coordinates plan list ≡

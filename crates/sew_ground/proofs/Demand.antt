@@ -110,7 +110,8 @@ module _ (rows marks queue flags plan : List ℕ) (ld : ℕ) where
 
   pub call-two-sew-refused : (vertices : List ℕ) (coordinates : List Float) (rd : ℕ) →
       isDone (twoSew rows marks queue flags vertices coordinates plan ld rd .answer) ≡ false →
-      (twoSew rows marks queue flags vertices coordinates plan ld rd .loans .0 ≡ rows) × (twoSew rows marks queue flags vertices coordinates plan ld rd .loans .3 ≡ plan)
+      (twoSew rows marks queue flags vertices coordinates plan ld rd .loans .0 ≡ rows)
+      × (twoSew rows marks queue flags vertices coordinates plan ld rd .loans .3 ≡ plan)
   unfolding twoSew
   call-two-sew-refused vertices coordinates rd =
       sew-refused (guardOf rows flags (vertexLoans (length marks) (length queue) (length vertices) (length coordinates)) 1 ld rd) rows marks queue plan

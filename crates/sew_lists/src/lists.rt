@@ -32,8 +32,8 @@ fn make_one(
         × (3 * darts (now rows) ≤ length (now coordinates)) × (3 * k + 3 ≤ length (now list)) × (answerWidth * k + answerWidth ≤ length (now output))
         × (width * written ≤ length (now plan)) × (darts (now rows) ≤ length (now flags)) ⌝ }
     ensures { λ r. ⌜ turn r (now (rows .exit)) (now (output .exit)) (now (plan .exit))
-        ≡ turnOf (run (now (flags .entry)) (now (vertices .entry)) (now (coordinates .entry))) (now (list .entry)) k written (now (rows .entry)) (now (output .entry))
-        (now (plan .entry)) ⌝ }
+        ≡ turnOf (run (now (flags .entry)) (now (vertices .entry)) (now (coordinates .entry))) (now (list .entry)) k written (now (rows .entry))
+        (now (output .entry)) (now (plan .entry)) ⌝ }
     ensures { λ _. ⌜ (now (marks .exit) ≡ now (marks .entry)) × (now (queue .exit) ≡ now (queue .entry)) ⌝ }
 {
     let at = 3 * k;
@@ -73,8 +73,8 @@ pub fn make_all(
         × (3 * darts (now rows) ≤ length (now coordinates)) × (answerWidth * (length (now list) / 3) ≤ length (now output))
         × (darts (now rows) ≤ length (now flags)) ⌝ }
     ensures { λ r. ⌜ turn r (now (rows .exit)) (now (output .exit)) (now (plan .exit))
-        ≡ filled (now (output .entry)) (made (run (now (flags .entry)) (now (vertices .entry)) (now (coordinates .entry))) (now (list .entry)) (now (rows .entry))
-        (now (plan .entry))) ⌝ }
+        ≡ filled (now (output .entry)) (made (run (now (flags .entry)) (now (vertices .entry)) (now (coordinates .entry))) (now (list .entry))
+        (now (rows .entry)) (now (plan .entry))) ⌝ }
     ensures { λ _. ⌜ (now (marks .exit) ≡ now (marks .entry)) × (now (queue .exit) ≡ now (queue .entry)) ⌝ }
 {
     let count = list.len() / 3;

@@ -29,9 +29,10 @@ use Rattle.test_examples.specs.Sews.{lines as sewLines}
 use Rattle.test_examples.specs.Table.{seen, faceLines, table}
 
 pub agree : calls table ≡ sayings table
-unfolding table seen faceLines linkLines sewLines unsewLines calls sayings threeLink threeUnlink threeUnsew idCall guardOf mapGuard loanTest noDart mapTest firstBreach
-    bound unused freeAt breachAt breaks badSize threeLinkOn threeUnlinkOn linkCore unlinkCore stepOf walk image mem add visit search orbit leastFrom least ident fresh insert
-    lower turn leg forward backward faceWalk faceId splitOf planOf putPlan entriesIf settled sewn threeFar pairEntries lefts rights entriesOf legOver
-    pairsFrom endFrom firstPairs firstEnd backPairs pairsOf splitsOf threeEntries threeUnsewOn mergeOf oneSew oneUnsew twoSew twoUnsew bothThree oneEntries
-    oneLinks oneSewOn secondCut agrees oneUnlinks oneUnsewOn sideOf twoEntries linkedSides twoSewOn twoUnsewOn slotAt slotsRefuse badGeometry plus sub mul le
+unfolding table seen faceLines linkLines sewLines unsewLines calls sayings threeLink threeUnlink threeUnsew idCall guardOf mapGuard loanTest noDart mapTest
+    firstBreach bound unused freeAt breachAt breaks badSize threeLinkOn threeUnlinkOn linkCore unlinkCore stepOf walk image mem add visit search orbit
+    leastFrom least ident fresh insert lower turn leg forward backward faceWalk faceId splitOf planOf putPlan entriesIf settled sewn threeFar pairEntries
+    lefts rights entriesOf legOver pairsFrom endFrom firstPairs firstEnd backPairs pairsOf splitsOf threeEntries threeUnsewOn mergeOf oneSew oneUnsew twoSew
+    twoUnsew bothThree oneEntries oneLinks oneSewOn secondCut agrees oneUnlinks oneUnsewOn sideOf twoEntries linkedSides twoSewOn twoUnsewOn slotAt
+    slotsRefuse badGeometry plus sub mul le
 agree = refl

@@ -18,7 +18,8 @@ guarded : (c : tie.After-guard) →
 guarded c =
     let at-scratch = c .before in
     let entry = at-scratch .before .before .before .before .before in
-    c .guard .ensures ∙ ap (λ (l : Loans). guardOf (entry .args .rows .now) (entry .args .flags .now) l 0 (entry .args .d) (entry .args .d)) (at-scratch .scratch .ensures)
+    c .guard .ensures ∙ ap (λ (l : Loans). guardOf (entry .args .rows .now) (entry .args .flags .now) l 0 (entry .args .d) (entry .args .d))
+    (at-scratch .scratch .ensures)
 
 passed : (c : tie.Else1) → isDone (c .before .before .guard .result) ≡ true
 passed c =
@@ -46,7 +47,8 @@ id-done-requires c κs =
     let at-if1 = c .before .before in
     let at-guard = at-if1 .before .before in
     let entry = at-guard .before .before .before .before .before .before in
-    let r = id-ready (entry .args .rows .now) (entry .args .marks .now) (entry .args .queue .now) (entry .args .flags .now) (entry .args .d) _ (guarded at-guard) (passed at-if1) in
+    let r = id-ready (entry .args .rows .now) (entry .args .marks .now) (entry .args .queue .now) (entry .args .flags .now) (entry .args .d) _
+    (guarded at-guard) (passed at-if1) in
     (r .map .formed, r .lent .marks, r .lent .queue, r .left .below)
 
 same-length : tie.Need-same-length

@@ -22,7 +22,8 @@ guarded : (c : tie.After-guard) →
 guarded c =
     let at-orbit-loans = c .before in
     let entry = at-orbit-loans .before .before .before .before .before in
-    c .guard .ensures ∙ ap (λ (l : Loans). guardOf (entry .args .rows .now) (entry .args .flags .now) l 0 (entry .args .d) (entry .args .d)) (at-orbit-loans .orbit-loans .ensures)
+    c .guard .ensures ∙ ap (λ (l : Loans). guardOf (entry .args .rows .now) (entry .args .flags .now) l 0 (entry .args .d) (entry .args .d))
+    (at-orbit-loans .orbit-loans .ensures)
 
 passed : (c : tie.Else1) → isDone (c .before .before .guard .result) ≡ true
 passed c =
@@ -67,7 +68,8 @@ list-orbit-requires c κs =
     let at-guard = at-if1 .before .before in
     let entry = at-guard .before .before .before .before .before .before in
     let e = codes-fit (entry .args .policy) _ (at-steps-of .steps-of .ensures) .1 in
-    let r = orbit-ready (entry .args .rows .now) (entry .args .marks .now) (entry .args .output .now) (entry .args .flags .now) (entry .args .d) _ (guarded at-guard) (passed at-if1) in
+    let r = orbit-ready (entry .args .rows .now) (entry .args .marks .now) (entry .args .output .now) (entry .args .flags .now) (entry .args .d) _
+    (guarded at-guard) (passed at-if1) in
     (r .map .formed, rw e (steps-are (entry .args .policy)), r .lent .marks, r .lent .output, r .left .below, policy-by (entry .args .policy) _ e)
 
 same-length : tie.Need-same-length

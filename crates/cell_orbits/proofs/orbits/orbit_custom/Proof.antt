@@ -19,7 +19,8 @@ guarded : (c : tie.After-guard) →
 guarded c =
     let at-orbit-loans = c .before in
     let entry = at-orbit-loans .before .before .before .before .before .before in
-    c .guard .ensures ∙ ap (λ (l : Loans). guardOf (entry .args .rows .now) (entry .args .flags .now) l 0 (entry .args .d) (entry .args .d)) (at-orbit-loans .orbit-loans .ensures)
+    c .guard .ensures ∙ ap (λ (l : Loans). guardOf (entry .args .rows .now) (entry .args .flags .now) l 0 (entry .args .d) (entry .args .d))
+    (at-orbit-loans .orbit-loans .ensures)
 
 passed : (c : tie.Else1) → isDone (c .before .before .guard .result) ≡ true
 passed c =

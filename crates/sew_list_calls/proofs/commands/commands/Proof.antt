@@ -12,8 +12,8 @@ use Rattle.sew_list_calls.proofs.commands.commands.Tie as tie
 -- what the code has tested is what the definition tests
 tested : (c : tie.After-lent-test) →
     let a = c .before .before .before .before .before .before .before .before .before .before .before .before .args in
-    c .lent-test .result ≡ commandsLent (a .rows .now) (a .flags .now) (loansFor (a .marks .now) (a .queue .now) (a .output .now) (a .vertices .now) (a .coordinates .now)
-    (a .list .now))
+    c .lent-test .result ≡ commandsLent (a .rows .now) (a .flags .now) (loansFor (a .marks .now) (a .queue .now) (a .output .now) (a .vertices .now)
+    (a .coordinates .now) (a .list .now))
 tested c =
     let entry = c .before .before .before .before .before .before .before .before .before .before .before .before in
     let a = entry .args in

@@ -26,8 +26,8 @@ returns c =
     let at-if1 = at-wipe-marks .before .before in
     let entry = at-if1 .before .before .before .before .before .before .before .before .before .before in
     let a = entry .args in
-    list-broken (a .rows .now) (a .marks .now) (a .queue .now) (a .output .now) (a .flags .now) (a .vertices .now) (a .coordinates .now) (a .plan .now) (a .list .now)
-    (at-if1 .if1 .taken) _ _ (at-wipe-marks .wipe-marks .ensures) (c .before .before .wipe-queue .ensures)
+    list-broken (a .rows .now) (a .marks .now) (a .queue .now) (a .output .now) (a .flags .now) (a .vertices .now) (a .coordinates .now) (a .plan .now)
+    (a .list .now) (at-if1 .if1 .taken) _ _ (at-wipe-marks .wipe-marks .ensures) (c .before .before .wipe-queue .ensures)
 
 map-test-requires : tie.Need-map-test-requires
 map-test-requires c κs = search needs
@@ -43,8 +43,8 @@ returns-2 c =
     let at-if1 = c .before .before .before .before in
     let entry = at-if1 .before .before .before .before .before .before .before .before .before .before in
     let a = entry .args in
-    list-no-map (a .rows .now) (a .marks .now) (a .queue .now) (a .output .now) (a .flags .now) (a .vertices .now) (a .coordinates .now) (a .plan .now) (a .list .now)
-    (at-if1 .if1 .left) _ (c .before .before .map-test .ensures) (sym (c .before .is-done .ensures) ∙ not-true _ (c .if2 .taken))
+    list-no-map (a .rows .now) (a .marks .now) (a .queue .now) (a .output .now) (a .flags .now) (a .vertices .now) (a .coordinates .now) (a .plan .now)
+    (a .list .now) (at-if1 .if1 .left) _ (c .before .before .map-test .ensures) (sym (c .before .is-done .ensures) ∙ not-true _ (c .if2 .taken))
 
 make-wiped-requires : tie.Need-make-wiped-requires
 make-wiped-requires c κs =
@@ -63,7 +63,8 @@ make-wiped-requires c κs =
       long .queue,
       long .vertices,
       long .coordinates,
-      lent-room (a .rows .now) (a .marks .now) (a .queue .now) (a .output .now) (a .flags .now) (a .vertices .now) (a .coordinates .now) (a .list .now) (pre .0) (pre .2),
+      lent-room (a .rows .now) (a .marks .now) (a .queue .now) (a .output .now) (a .flags .now) (a .vertices .now) (a .coordinates .now)
+          (a .list .now) (pre .0) (pre .2),
       pre .1,
     )
 
@@ -94,10 +95,11 @@ returns-3 c =
     let a = entry .args in
     let pre = entry .pre in
     let done = sym (at-is-done .is-done .ensures) ∙ not-false _ (at-if2 .if2 .left) in
-    list-all (a .rows .now) (a .marks .now) (a .queue .now) (a .output .now) (a .flags .now) (a .vertices .now) (a .coordinates .now) (a .plan .now) (a .list .now)
-    (at-if1 .if1 .left) _ (at-map-test .map-test .ensures) _ done
+    list-all (a .rows .now) (a .marks .now) (a .queue .now) (a .output .now) (a .flags .now) (a .vertices .now) (a .coordinates .now) (a .plan .now)
+    (a .list .now) (at-if1 .if1 .left) _ (at-map-test .map-test .ensures) _ done
     (map-done (a .rows .now) (a .flags .now) (pre .0) (pre .1) (ap isDone (sym (at-map-test .map-test .ensures)) ∙ done))
-    (lent-long (a .rows .now) (a .marks .now) (a .queue .now) (a .output .now) (a .flags .now) (a .vertices .now) (a .coordinates .now) (a .list .now) (pre .0) (pre .2))
+    (lent-long (a .rows .now) (a .marks .now) (a .queue .now) (a .output .now) (a .flags .now) (a .vertices .now) (a .coordinates .now) (a .list .now)
+    (pre .0) (pre .2))
     (at-make-wiped .make-wiped .ensures)
 
 pub commands-lent-spec : {M : Type 1} → statement M

@@ -75,8 +75,8 @@ loop-again c =
     let more = at-loop-test .loop-test .taken in
     let out = m .output-long in
     let e = at-make-one .make-one .ensures in (
-      making-turn (a .flags .now) (a .vertices .now) (a .coordinates .now) (a .list .now) (a .rows .now) (a .output .now) (a .plan .now) (l .k) (l .written) (l .rows)
-          (l .output) (l .plan) m (omega (arith, more)) (omega (arith, more, out, entry .pre .4)) _ (e .0),
+      making-turn (a .flags .now) (a .vertices .now) (a .coordinates .now) (a .list .now) (a .rows .now) (a .output .now) (a .plan .now) (l .k)
+          (l .written) (l .rows) (l .output) (l .plan) m (omega (arith, more)) (omega (arith, more, out, entry .pre .4)) _ (e .0),
       omega (arith, more),
       e .1 .0 ∙ l .inv .2,
       e .1 .1 ∙ l .inv .3,
@@ -106,8 +106,8 @@ returns c =
     let over = c .loop-test .left in
     let in-list = l .inv .1 in
     let out = l .inv .0 .output-long in (
-      making-ends (a .flags .now) (a .vertices .now) (a .coordinates .now) (a .list .now) (a .rows .now) (a .output .now) (a .plan .now) (l .k) (l .written) (l .rows)
-          (l .output) (l .plan) (l .inv .0) (omega (arith, over, in-list)) (omega (arith, in-list, out, entry .pre .4)),
+      making-ends (a .flags .now) (a .vertices .now) (a .coordinates .now) (a .list .now) (a .rows .now) (a .output .now) (a .plan .now) (l .k)
+          (l .written) (l .rows) (l .output) (l .plan) (l .inv .0) (omega (arith, over, in-list)) (omega (arith, in-list, out, entry .pre .4)),
       (l .inv .2, l .inv .3),
     )
 

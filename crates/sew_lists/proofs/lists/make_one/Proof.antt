@@ -62,7 +62,8 @@ put-answer-requires c κs =
     let back8 = at-run-command .before .before .before .before .before .before .before .before in
     let entry = back8 .before .before .before .before .before .before .before .before .before in
     let a = entry .args in
-    (entry .pre .5, answer-fits (a .flags .now) (a .vertices .now) (a .coordinates .now) _ _ _ (a .rows .now) _ (entry .pre .0) _ _ _ (at-run-command .run-command .ensures .0))
+    let e = at-run-command .run-command .ensures in
+    (entry .pre .5, answer-fits (a .flags .now) (a .vertices .now) (a .coordinates .now) _ _ _ (a .rows .now) _ (entry .pre .0) _ _ _ (e .0))
 
 count-of-requires : tie.Need-count-of-requires
 count-of-requires c κs = search needs

@@ -65,7 +65,8 @@ returns-2 c =
     let entry = back23 in
     let a = entry .args in
     let e = at-run .run .ensures in (
-      tested-done (a .operation) (a .flags .now) (a .vertices .now) (a .coordinates .now) (a .ld) (a .rd) (a .rows .now) (a .plan .now) _ (at-sew-second .sew-second .ensures)
+      tested-done (a .operation) (a .flags .now) (a .vertices .now) (a .coordinates .now) (a .ld) (a .rd) (a .rows .now) (a .plan .now) _
+          (at-sew-second .sew-second .ensures)
           (at-dart-test .dart-test .result) (at-dart-test .dart-test .ensures) _ (sym (at-is-done .is-done .ensures) ∙ not-false _ (at-if1 .if1 .left)) (e .0),
       e .1,
     )

@@ -1,7 +1,7 @@
 -- What the calls of identifiers, orbits and lists answer, for a reader.
 --   call-vertex-least, call-edge-least, call-volume-least   an identifier's call answers the least dart of the CGAL manual's cell
 --   call-orbit           an orbit's call writes the darts that the steps reach, each once, the dart itself first
---   call-unused-id, call-unused-orbit   an unused dart is its own identifier, and its orbits are itself alone
+--   call-unused-id, call-unused-orbit, call-unused-custom   an unused dart is its own identifier, and its orbits are itself alone
 --   call-listed          a list's call writes exactly the darts that are not unused and are their own identifier, ascending
 --   id-refused, orbit-refused, custom-refused, list-refused   a refused call leaves every loan
 -- Each but the last for a map, loans that are long enough, and a dart of it, in use or not. Assumes nothing.
@@ -9,7 +9,7 @@ use Prim.Native.Nat.{ℕ, _≤_, _<_}
 use native.Mathlib.Omega.{arith}
 use mathlib.Core.Path.{_≡_, refl, ap, _∙_}
 use mathlib.Core.Logic.{_↔_}
-use mathlib.Core.Bool.{true, false}
+use mathlib.Core.Bool.{Bool, true, false, cond}
 use mathlib.Core.List.{List, [], _∷_}
 use lib.ListN.{length}
 use Rattle.map_betas.specs.declared.error.Answer.{Answer}
@@ -34,7 +34,7 @@ use Rattle.cell_lists.specs.CellLists.{Ascending}
 use Rattle.cell_lists.proofs.MemberLaws.{Own}
 use Rattle.cell_names.specs.Cells.{identOf, listOf}
 use Rattle.cell_names.specs.Calls.{idGuard, idDone, idCall, listGuard, listDone, listCall}
-use Rattle.cell_names.proofs.IdentifierLaws.{Least, vertex-least, edge-least, volume-least, free-ident, free-orbit, listed-exactly, listed-ascending}
+use Rattle.cell_names.proofs.IdentifierLaws.{Least, vertex-least, edge-least, volume-least, free-ident, free-orbit, free-custom, listed-exactly, listed-ascending}
 
 module _ (rows flags marks : List ℕ) (map : Map rows flags) (m : darts rows ≤ length marks) where
   w : WellFormed rows
@@ -102,6 +102,15 @@ module _ (rows flags marks : List ℕ) (map : Map rows flags) (m : darts rows �
     call-unused-orbit u =
         is-done
         ∙ ap (λ (l : List ℕ). outcome (Done 0 (length l)) (wiped (darts rows) marks, headed l output)) (free-orbit rows w d (map .free d u) p)
+
+    -- by lent betas too, whatever they are
+    pub call-unused-custom : unused flags d ≡ true → (betas : List ℕ) → isDone (customTest betas) ≡ true →
+        customCall rows marks output flags betas d ≡ outcome (Done 0 1) (wiped (darts rows) marks, headed (d ∷ []) output)
+    unfolding customCall
+    call-unused-custom u betas t =
+        ap (λ (g : Answer). behind (andThen g (customTest betas)) (marks, output) (orbitDone rows marks output betas d)) orbit-passes
+        ∙ ap (λ (b : Bool). cond b (orbitDone rows marks output betas d) (outcome (customTest betas) (marks, output))) t
+        ∙ ap (λ (l : List ℕ). outcome (Done 0 (length l)) (wiped (darts rows) marks, headed l output)) (free-custom rows w d (map .free d u) betas t)
 
   -- ---- lists
 

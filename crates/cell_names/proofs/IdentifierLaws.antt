@@ -3,15 +3,17 @@
 --   vertex-least, edge-least, volume-least  the identifier is the least dart of the CGAL manual's cell
 --   vertex-same, edge-same, volume-same     darts have one identifier exactly where they are in one cell
 --   face-least                              so it is for a regular face
---   free-ident, free-orbit                  a dart without an image is its own identifier, and its orbits are itself alone
+--   free-ident, free-orbit, free-custom     a dart without an image is its own identifier, and its orbits are itself alone
 --   null-ident                              the identifier of the null dart is 0
 --   listed-exactly, listed-ascending        what a list holds, and that it ascends
 -- Assumes nothing.
 use Prim.Native.Nat.{ℕ, _≤_, _<_}
 use mathlib.Core.Path.{_≡_, sym, subst}
 use mathlib.Core.Logic.{_↔_}
+use mathlib.Core.Bool.{true}
 use mathlib.Core.List.{List, [], _∷_}
 use Rattle.map_betas.specs.Betas.{darts}
+use Rattle.map_betas.specs.Answers.{isDone}
 use Rattle.map_betas.specs.Maps.{WellFormed, Free}
 use Rattle.cell_steps.specs.declared.policy.OrbitPolicy.{OrbitPolicy}
 use Rattle.cell_steps.specs.declared.policy.OrbitPolicy.the-variants as policy
@@ -19,8 +21,10 @@ use Rattle.cell_steps.specs.Steps.{IsStep, vertex, edge, face, volume, stepsOf}
 use Rattle.cell_steps.specs.Search.{In, orbit}
 use Rattle.cell_steps.specs.Cgal.{Orbit, vertexΦ, edgeΦ, faceΦ, volumeΦ}
 use Rattle.cell_steps.specs.Idents.{ident}
+use Rattle.cell_steps.specs.Calls.{customTest}
 use Rattle.cell_steps.proofs.Lists.{at-in}
-use Rattle.cell_steps.proofs.StepLaws.{steps-are}
+use Rattle.cell_steps.proofs.StepLaws.{steps-are, betas-are}
+use Rattle.cell_steps.proofs.CallLaws.{custom-done}
 use Rattle.cell_steps.proofs.CgalLaws.{Serves, vertex-serves, edge-serves, face-serves, volume-serves}
 use Rattle.cell_steps.proofs.CellLaws.{ident-in, ident-first, one-ident, orbit-alone, ident-alone}
 use Rattle.cell_lists.specs.CellLists.{Ascending}
@@ -75,6 +79,10 @@ module _ (rows : List ℕ) (w : WellFormed rows) where
 
   pub free-orbit : (d : ℕ) → Free rows d → (p : OrbitPolicy) → orbit rows (stepsOf p) d ≡ d ∷ []
   free-orbit d f p = orbit-alone rows w d f (stepsOf p) (are-steps p)
+
+  pub free-custom : (d : ℕ) → Free rows d → (betas : List ℕ) → isDone (customTest betas) ≡ true → orbit rows betas d ≡ d ∷ []
+  free-custom d f betas t =
+      orbit-alone rows w d f betas (λ c m. let q = at-in m in subst IsStep (q .2) (betas-are betas (custom-done betas t) .each (q .0) (q .1)))
 
   pub null-ident : (class : Class) → identOf class rows 0 ≡ 0
   null-ident = free-ident 0 (w .null)

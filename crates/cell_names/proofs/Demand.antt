@@ -34,7 +34,8 @@ use Rattle.cell_lists.specs.CellLists.{Ascending}
 use Rattle.cell_lists.proofs.MemberLaws.{Own}
 use Rattle.cell_names.specs.Cells.{identOf, listOf}
 use Rattle.cell_names.specs.Calls.{idGuard, idDone, idCall, listGuard, listDone, listCall}
-use Rattle.cell_names.proofs.IdentifierLaws.{Least, vertex-least, edge-least, volume-least, free-ident, free-orbit, free-custom, listed-exactly, listed-ascending}
+use Rattle.cell_names.proofs.IdentifierLaws.{Least, vertex-least, edge-least, volume-least, listed-exactly, listed-ascending}
+use Rattle.cell_names.proofs.IdentifierLaws.{free-ident, free-orbit, free-custom}
 
 module _ (rows flags marks : List ℕ) (map : Map rows flags) (m : darts rows ≤ length marks) where
   w : WellFormed rows

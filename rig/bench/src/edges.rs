@@ -185,7 +185,7 @@ fn call_table(times: &Times, grids: &[Input]) -> String {
 const RATIOS: &str = "\
     Each ratio stands twice: of medians / of least times. For a difference the least time is then the \
     difference of the least times; its own column has the differences within each run, between whose two \
-    parts a busy spell can begin or end.";
+    parts a busy spell can begin or end. A difference that is not above zero has no ratio.";
 
 /// Above [`list_table`].
 const BY_LIST: &str = "\

@@ -48,7 +48,8 @@ pub fn ratio(peer: Option<Spread>, ours: Option<Spread>) -> Option<f64> {
 }
 
 pub fn times_text(ratio: Option<f64>) -> String {
-    ratio.map_or("–".into(), |r| if r < 9.95 { format!("{r:.2}") } else { format!("{r:.0}") })
+    let said = ratio.filter(|&r| r > 0.0);
+    said.map_or("–".into(), |r| if r < 9.95 { format!("{r:.2}") } else { format!("{r:.0}") })
 }
 
 /// A time that may be below zero, being a difference.

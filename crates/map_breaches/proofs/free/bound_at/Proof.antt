@@ -11,7 +11,7 @@ shared-slice-read-if1 : tie.Need-shared-slice-read-if1
 shared-slice-read-if1 c = search needs
 
 returns : tie.Need-returns
-returns c = sym (bound-used _ _ _ (used-zero _ _ (c .if1 .taken)))
+returns c = sym (bound-used _ _ _ (used-zero _ _ (omega (arith, c .if1 .taken))))
 
 free-at-requires : tie.Need-free-at-requires
 free-at-requires c κs = search needs
@@ -19,7 +19,7 @@ free-at-requires c κs = search needs
 returns-2 : tie.Need-returns-2
 returns-2 c =
     let entry = c .before .before .before .before .before in
-    ap not (c .free-at .ensures) ∙ bound-unused _ _ _ (unused-flag _ _ (omega (arith, entry .pre .2)) (c .before .if1 .left))
+    ap not (c .free-at .ensures) ∙ bound-unused _ _ _ (unused-flag _ _ (omega (arith, entry .pre .2)) (omega (arith, c .before .if1 .left)))
 
 pub bound-at-spec : {M : Type 1} → statement M
 bound-at-spec = tie.close (tie.spec shared-slice-read-if1 returns free-at-requires returns-2)

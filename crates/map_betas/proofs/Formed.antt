@@ -1,4 +1,5 @@
 -- The map test passes exactly on a map: rows that are well formed, and no unused dart with an image.
+--   Passes      a dart that the map test passes
 --   size-done   the size test has passed
 --   map-done    both tests have passed, with a flag for each dart
 --   map-passes  the map test passes on a map
@@ -25,8 +26,8 @@ use Rattle.map_betas.proofs.MapLaws.{sized, breaks-far, breaks-null, br
 abbrev Clean : List ℕ → Type 0
 Clean rows = (i d : ℕ) → i < 4 → d < darts rows → breaks rows i d ≡ false
 
--- nor has an unused dart an image
-abbrev Passes : List ℕ → List ℕ → ℕ → Type 0
+-- a dart that the map test passes: none of its images breaks a rule, and it is not unused and linked
+abbrev pub Passes : List ℕ → List ℕ → ℕ → Type 0
 Passes rows flags d = (4 ≤ breachAt rows d) × (bound rows flags d ≡ false)
 
 -- a search that finds nothing passed each dart

@@ -25,7 +25,7 @@ use Rattle.map_betas.specs.Answers.{pass, isDone, andThen, tellOf}
 use Rattle.map_betas.specs.Maps.{WellFormed, Map, sizeTest, breaks, breachAt, bound, firstBreach, mapTest}
 use Rattle.map_betas.specs.Guards.{noLoans, loanTest, dartTest, mapGuard, guardOf, checkMap, Lent, Ready}
 use Rattle.map_betas.proofs.MapLaws.{size-good, breach-clean}
-use Rattle.map_betas.proofs.Formed.{map-passes}
+use Rattle.map_betas.proofs.Formed.{Passes, map-passes}
 use Rattle.map_betas.proofs.GuardLaws.{loan-none, dart-good, dart-both, mapped, ready}
 
 -- ---- the guard
@@ -101,16 +101,13 @@ module _ (rows : List ℕ) (d : ℕ) where
       go false pa false pb false pc true pe q h = subst Says q (pe, below-three (λ (x : ℕ). breaks rows x d ≡ false) pa pb pc)
       go false pa false pb false pc false pe q h = absurd (omega (arith, q, h))
 
--- what is said of a dart that passes, and of the place i of one that does not: 4 stands for the dart's flag
-
-abbrev Passed : List ℕ → List ℕ → ℕ → Type 0
-Passed rows flags d = (4 ≤ breachAt rows d) × (bound rows flags d ≡ false)
+-- what is said of the place i of a dart that does not pass: 4 stands for the dart's flag
 
 abbrev Stops : List ℕ → List ℕ → ℕ → ℕ → Type 0
 Stops rows flags i d = ((breachAt rows d ≡ i) × (i < 4)) ⊎ ((i ≡ 4) × (4 ≤ breachAt rows d) × (bound rows flags d ≡ true))
 
 abbrev Finds : List ℕ → List ℕ → ℕ → ℕ → ℕ → ℕ → Type 0
-Finds rows flags f d i x = (d ≤ x) × (x < d + f) × Stops rows flags i x × ((e : ℕ) → d ≤ e → e < x → Passed rows flags e)
+Finds rows flags f d i x = (d ≤ x) × (x < d + f) × Stops rows flags i x × ((e : ℕ) → d ≤ e → e < x → Passes rows flags e)
 
 -- a search that refuses has passed every dart before
 found : (f : ℕ) (rows flags : List ℕ) (d i x : ℕ) → firstBreach f rows flags d ≡ Refused (NotAMap i x) → Finds rows flags f d i x

@@ -3,7 +3,6 @@
 --   link-spares, unlink-spares   a core, done or refused; the image that an unlink parts was not free
 --   link-keeps-all, unlink-keeps-all   the same with well-formed rows, as many
 --   keeps-same, keeps-then   what leaves the rows keeps them; one after the other
---   keeps-first    what spares all but a spares all but a and b
 --   keeps-but      what spares all but a and b spares all but a, where b has an image
 --   keeps-linked   what spares all but two darts that have an image spares all
 --   next-linked    the image of a dart is not free, or null
@@ -65,9 +64,6 @@ keeps-same a b rows w = (w, refl, λ d x y f. f)
 
 pub keeps-then : (a b : ℕ) (rows rows₁ rows₂ : List ℕ) → Keeps a b rows rows₁ → Keeps a b rows₁ rows₂ → Keeps a b rows rows₂
 keeps-then a b rows rows₁ rows₂ j k = (k .0, k .1 ∙ j .1, λ d x y f. k .2 d x y (j .2 d x y f))
-
-pub keeps-first : (a b : ℕ) (rows rows′ : List ℕ) → Keeps a a rows rows′ → Keeps a b rows rows′
-keeps-first a b rows rows′ k = (k .0, k .1, λ d x y f. k .2 d x x f)
 
 pub keeps-but : (a b : ℕ) (rows rows′ : List ℕ) → (Free rows b → ⊥) → Keeps a b rows rows′ → Keeps a a rows rows′
 keeps-but a b rows rows′ n k = (k .0, k .1, λ d x y f. k .2 d x (λ e. n (λ i h. ap (beta rows i) (sym e) ∙ f i h)) f)

@@ -12,9 +12,10 @@
  *
  * ANSWERS (scope: numbers, order). Every function returns one of the numbers below and always writes three
  * values, 0 where absent. When done, values[0] is the dart or yes/no answered (0 where none), values[1]
- * the count written (darts for orbits, lists and the reader, entries for plans, bytes for the writer; 0
- * where none) and values[2] is 0. Refusals 1 to 5 come first, in that order, then 6 to 10, whichever is met
- * first, and 11 last; lists of commands, the reader and the writer say their own order.
+ * the count written (darts for orbits, lists and the reader, entries for plans, bytes for the writer) or, of a
+ * vertex, edge or volume identifier, the size of the cell (0 where none), and values[2] is 0. Refusals 1 to 5
+ * come first, in that order, then 6 to 10, whichever is met first, and 11 last; lists of commands, the reader
+ * and the writer say their own order.
  *
  * WHAT IS LEFT (scope: what is left, scratch). A refusal leaves rows, flags, vertices, plan, output and bytes
  * as they were. A refusal from 1 to 5 leaves scratch (marks and queue) too; any other answer wipes its first n
@@ -45,9 +46,30 @@
  *   7 rows           4n u32       for the reader alone
  * The writer's bytes have no number here: where they are too few it says how many it needs.
  *
- * PLAN (scope: plan). What a sew or unsew asks of the caller's own stores, in order, as entries of four
- * u32: a code; then for a merge the cell that stays, the left and the right one, for a split the left and
- * the right one and the cell that they come from. Places behind the last whole entry are never written.
+ * PLAN (scope: plan). What a sew or unsew asks of the caller's own stores, in order, as entries of six u32: a
+ * code; then for a merge the cell that stays, the left and the right one, for a split the left and the right one
+ * and the cell that they come from; then the size of the left and that of the right cell, for a merge as they
+ * were before linking, for a split as they are once all is unlinked. A size is how many darts a cell has; a null
+ * cell has identifier 0 and size 0. A face split says in both places how many pairs of darts were parted. A plan
+ * has room for as many entries as it has whole sixes of places; those behind the last whole six are never
+ * written.
+ *
+ * SUMS (scope: sums). What a merge leaves has exactly the darts of its two cells, so that their sizes add up,
+ * where it is a 1-sew's vertex merge or a 2-sew's edge merge; and a 2-sew's vertex merge where it is the only
+ * one, or names no cell that the other names too. Where both name a cell, one vertex is left of all that they
+ * name, and neither the sum of an entry nor the cell that it says stays can be relied on. The smallest maps: with
+ * beta 1 of 3 = 1 and beta 3 of 1 = 2 a 2-sew of 2 and 3 plans two vertex merges of sizes 1 and 1, and leaves a
+ * vertex of 3 darts; with beta 1 of 3 = 2 and beta 3 of 1 = 2 a 2-sew of 1 and 3 plans, last, that 2 stays of the
+ * vertices 2 and 3, and what is left is the vertex 1. inkcapper_vertex_id, asked afterwards, has name and size.
+ *
+ * A CALLER OF VERSION 4 has to change these places, which no compiler finds, since all parameters are as they
+ * were:
+ *   plan loans: six u32 for each entry that there may be, where four did; with fewer a call is refused with 11,
+ *     which counts entries as before;
+ *   plans read: from entry to entry by six, in the plan of a list of commands too; code and identifiers are the
+ *     first four and say what they said;
+ *   identifiers: values[1] of inkcapper_vertex_id, inkcapper_edge_id and inkcapper_volume_id is the size of the
+ *     cell, where it was 0; that of inkcapper_face_id is 0 as before.
  */
 #ifndef INKCAPPER_H
 #define INKCAPPER_H
@@ -60,12 +82,12 @@ extern "C" {
 #endif
 
 /* The version of this boundary, raised whenever a function's parameters or its meaning change. Versions up to 3
- * had no such number; since 4 the flags belong to the map. */
-#define INKCAPPER_VERSION 4
+ * had no such number; since 4 the flags belong to the map; since 5 identifiers and plans say the sizes of cells. */
+#define INKCAPPER_VERSION 5
 
 /* What a call returns; the comment gives values[0], values[1], values[2]. */
 enum inkcapper_number {
-    INKCAPPER_DONE = 0,                /* dart or yes/no, count written */
+    INKCAPPER_DONE = 0,                /* dart or yes/no, count written or size of a cell */
     INKCAPPER_BAD_SIZE = 1,            /* how long the rows are: nothing, no multiple of 4, or too many darts */
     INKCAPPER_SHORT_LOAN = 2,          /* which loan: the first that is too short; never the plan or the bytes */
     INKCAPPER_NOT_A_MAP = 3,           /* beta, dart: the first image that breaks a rule, by dart and then by beta; */
@@ -77,7 +99,7 @@ enum inkcapper_number {
     INKCAPPER_ALREADY_FREE = 8,        /* i, d: beta i of d is null */
     INKCAPPER_ASYMMETRICAL_FACES = 9,  /* ld, rd: the two faces do not go together */
     INKCAPPER_BAD_GEOMETRY = 10,       /* 2, ld, rd: the two edges do not point against each other */
-    INKCAPPER_PLAN_ROOM = 11,          /* entries needed: more than the plan has room for */
+    INKCAPPER_PLAN_ROOM = 11,          /* entries needed: more than the plan has room for, of six u32 each */
     INKCAPPER_BAD_IMAGE = 12,          /* header word 0 to 6, or 7 for flags, 8 for vertices */
     INKCAPPER_BAD_COMMAND = 13,        /* the operation: none of 1 to 11; 0 for a list of no whole commands */
     INKCAPPER_IMAGE_ROOM = 14          /* bytes needed: more than are lent */
@@ -117,6 +139,9 @@ enum inkcapper_entry {
     INKCAPPER_EDGE_SPLIT = 12,
     INKCAPPER_FACE_SPLIT = 13
 };
+
+/* How many u32 an entry of a plan has: code, three identifiers, two sizes. */
+#define INKCAPPER_ENTRY_NUMBERS 6
 
 /* The most darts that a map may have, the null dart counted. */
 #define INKCAPPER_MOST_DARTS 1048576
@@ -218,11 +243,12 @@ uint32_t inkcapper_two_unsew(uint32_t *rows, size_t rows_len,
                              uint32_t ld, uint64_t values[3]);
 
 /* 3-unlinks the face of ld, 8 (3, ld) or 9 (ld, rd) as the 3-unlink; plans the face split (least left dart,
- * least right dart, the lesser), then for each pair l, r in walk order, on the cells as they stand after: the
- * edge split; the split of the vertex of M(beta 1, beta 2 of l) and that of r; and, where beta 0 of l is null,
- * of the vertex of l and that of M(beta 1, beta 2 of r). The vertex of a null M is 0, and such a split is
- * listed. Answers rd. Costs: it names the cells of every pair, so that a fan, where many pairs share one large
- * vertex, costs the pairs times the vertex, and twice that where the plan is too short to be sure. */
+ * least right dart, the lesser, and as both sizes the number of pairs), then for each pair l, r in walk order,
+ * on the cells as they stand after the last pair is parted: the edge split; the split of the vertex of
+ * M(beta 1, beta 2 of l) and that of r; and, where beta 0 of l is null, of the vertex of l and that of
+ * M(beta 1, beta 2 of r). The vertex of a null M is 0, of size 0, and such a split is listed. Answers rd.
+ * Costs: it names the cells of every pair, so that a fan, where many pairs share one large vertex, costs the
+ * pairs times the vertex, and twice that where the plan is too short to be sure. */
 uint32_t inkcapper_three_unsew(uint32_t *rows, size_t rows_len,
                                uint8_t *marks, size_t marks_len, uint32_t *queue, size_t queue_len,
                                const uint8_t *flags, size_t flags_len,
@@ -255,26 +281,27 @@ uint32_t inkcapper_commands(uint32_t *rows, size_t rows_len,
                             uint32_t *plan, size_t plan_len,
                             const uint32_t *commands, size_t commands_len, uint64_t values[3]);
 
-/* ---- Identifiers (scope: identifier, face_id): dart 0 allowed, and answered with 0; an unused dart, and
- *      answered with itself. Refusals 1 to 4. Scratch: marks and queue. ---- */
+/* ---- Identifiers (scope: identifier, face_id): dart 0 allowed, and answered with 0, of size 0; an unused dart,
+ *      and answered with itself, of size 1. Refusals 1 to 4. Scratch: marks and queue. ---- */
 
-/* Answers the least dart of the Vertex orbit of d. */
+/* Answers the least dart of the Vertex orbit of d, and in values[1] its size: how many darts the orbit has. */
 uint32_t inkcapper_vertex_id(const uint32_t *rows, size_t rows_len,
                              uint8_t *marks, size_t marks_len, uint32_t *queue, size_t queue_len,
                              const uint8_t *flags, size_t flags_len, uint32_t d, uint64_t values[3]);
 
-/* Answers the least dart of the Edge orbit of d. */
+/* Answers the least dart of the Edge orbit of d, and in values[1] its size. */
 uint32_t inkcapper_edge_id(const uint32_t *rows, size_t rows_len,
                            uint8_t *marks, size_t marks_len, uint32_t *queue, size_t queue_len,
                            const uint8_t *flags, size_t flags_len, uint32_t d, uint64_t values[3]);
 
 /* Answers the face of d as honeycomb's face_id walks it, which is not always the least dart of the Face
- * orbit: the two darts at which its leg back begins on an open face are not asked for the minimum. */
+ * orbit: the two darts at which its leg back begins on an open face are not asked for the minimum. It says no
+ * size: values[1] is 0. */
 uint32_t inkcapper_face_id(const uint32_t *rows, size_t rows_len,
                            uint8_t *marks, size_t marks_len, uint32_t *queue, size_t queue_len,
                            const uint8_t *flags, size_t flags_len, uint32_t d, uint64_t values[3]);
 
-/* Answers the least dart of the Volume orbit of d. */
+/* Answers the least dart of the Volume orbit of d, and in values[1] its size. */
 uint32_t inkcapper_volume_id(const uint32_t *rows, size_t rows_len,
                              uint8_t *marks, size_t marks_len, uint32_t *queue, size_t queue_len,
                              const uint8_t *flags, size_t flags_len, uint32_t d, uint64_t values[3]);

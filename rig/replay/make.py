@@ -9,6 +9,8 @@ The answers are printed by the comparison program of rig/compare:
 The published Rust's own are every call on all maps of one and of two real darts, every 41st call on all maps of
 three, and every 3001st on all maps of four; then 2-sews with the coordinates of the two worked 2-sews, every 23rd on
 all maps of three real darts and every 2003rd on all maps of four. Calls without a C name (in parentheses) are left out.
+The Rust says no sizes of cells: those of identifiers and of plan entries are the lengths of its orbits, and those of a
+face split are counted in its rows before and after (kernels/published.rs of rig/compare).
 Behind them come 600 of the model's refusals 1, 3, 4 and 5, which the Rust does not have (2 needs loans of other
 lengths than the program lends). In all these no dart is unused. Then come 800 calls on maps with unused darts, 200
 of each kind: refusals 3 of an unused dart that is linked and refusals 4 of an unused argument, both the model's;
@@ -41,6 +43,7 @@ vertex_id edge_id face_id volume_id
 orbit_vertex orbit_vertex_linear orbit_edge orbit_face orbit_face_linear orbit_volume orbit_volume_linear
 orbit_custom list_vertices list_edges list_faces list_volumes commands""".split()
 ROOM = 64
+ENTRY_NUMBERS = 6
 LARGEST = 524288
 
 
@@ -54,6 +57,8 @@ def record(call, numbers, flags, before, answer, after, written, points=0, room=
         betas, numbers = numbers, [output]
     a, b = (numbers + [0, 0])[:2]
     assert len(numbers) <= 2 and len(answer) == 4 and len(written) - output <= room
+    plans = "sew" in call or call == "commands"
+    assert not plans or answer[0] or len(written) == output + ENTRY_NUMBERS * answer[2]
     assert len(before) == len(after) == 4 * len(flags)
     head = [CALLS.index(call) + 1, len(before) // 4, a, b, *answer, points, room, len(betas), len(written)]
     return bytes(head + betas + flags + before + after + written)
@@ -71,10 +76,10 @@ def chains(n, *links):
 def worked():
     """Three of the worked examples: a plan without room, and both 2-sews."""
     pair = chains(3, (3, 1, 2))
-    yield "three_unsew", [1], [0] * 3, pair, [11, 4, 0, 0], pair, [], 0, 12
+    yield "three_unsew", [1], [0] * 3, pair, [11, 4, 0, 0], pair, [], 0, 3 * ENTRY_NUMBERS
     open_faces = [(1, 1, 2), (1, 3, 4)]
     before, after = chains(5, *open_faces), chains(5, *open_faces, (2, 1, 3))
-    plan = [2, 1, 1, 3, 1, 1, 1, 4, 1, 2, 2, 3]
+    plan = [2, 1, 1, 3, 1, 1, 1, 1, 1, 4, 1, 1, 1, 2, 2, 3, 1, 1]
     yield "two_sew", [1, 3], [0] * 5, before, [0, 0, 3, 0], after, plan, 1, ROOM
     yield "two_sew", [1, 3], [0] * 5, before, [10, 2, 1, 3], before, [], 2, ROOM
 

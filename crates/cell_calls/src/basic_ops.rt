@@ -1,4 +1,4 @@
-// The calls: an identifier for each class of cells.
+// The calls: an identifier for each class of cells. An answer has the cell's name, and how many darts it has.
 use cell_names::identifiers::identifier;
 use cell_scratch::scratch::wipe_marks;
 use cell_scratch::scratch::wipe_queue;
@@ -24,8 +24,8 @@ fn id_done(rows: &[u32], marks: &mut [u8], queue: &mut [u32], class: Class, d: u
     let n = rows.len() / 4;
     wipe_marks(marks, n);
     wipe_queue(queue, n);
-    let id = identifier(rows, class, &mut marks[..n], &mut queue[..n], d);
-    Answer::Done(id, 0)
+    let c = identifier(rows, class, &mut marks[..n], &mut queue[..n], d);
+    Answer::Done(c.least, c.count as usize)
 }
 
 // The identifier of d's cell of a class.
@@ -47,7 +47,7 @@ fn id_call(
     id_done(rows, marks, queue, class, d)
 }
 
-// The least dart of d's vertex.
+// The least dart of d's vertex, and how many darts it has.
 pub fn vertex_id(rows: &[u32], marks: &mut [u8], queue: &mut [u32], flags: &[u8], d: u32) -> Answer
     ensures { λ a. ⌜ outcome a (now (marks .exit), now (queue .exit))
         ≡ idCall (now (rows .entry)) (now (marks .entry)) (now (queue .entry)) (now (flags .entry)) Vertex d ⌝ }
@@ -55,7 +55,7 @@ pub fn vertex_id(rows: &[u32], marks: &mut [u8], queue: &mut [u32], flags: &[u8]
     id_call(rows, marks, queue, flags, Class::Vertex, d)
 }
 
-// The least dart of d's edge.
+// The least dart of d's edge, and how many darts it has.
 pub fn edge_id(rows: &[u32], marks: &mut [u8], queue: &mut [u32], flags: &[u8], d: u32) -> Answer
     ensures { λ a. ⌜ outcome a (now (marks .exit), now (queue .exit))
         ≡ idCall (now (rows .entry)) (now (marks .entry)) (now (queue .entry)) (now (flags .entry)) Edge d ⌝ }
@@ -63,7 +63,7 @@ pub fn edge_id(rows: &[u32], marks: &mut [u8], queue: &mut [u32], flags: &[u8], 
     id_call(rows, marks, queue, flags, Class::Edge, d)
 }
 
-// The face identifier of d, as the Rust walks it.
+// The face identifier of d, as the Rust walks it; nothing is counted.
 pub fn face_id(rows: &[u32], marks: &mut [u8], queue: &mut [u32], flags: &[u8], d: u32) -> Answer
     ensures { λ a. ⌜ outcome a (now (marks .exit), now (queue .exit))
         ≡ idCall (now (rows .entry)) (now (marks .entry)) (now (queue .entry)) (now (flags .entry)) Face d ⌝ }
@@ -71,7 +71,7 @@ pub fn face_id(rows: &[u32], marks: &mut [u8], queue: &mut [u32], flags: &[u8], 
     id_call(rows, marks, queue, flags, Class::Face, d)
 }
 
-// The least dart of d's volume.
+// The least dart of d's volume, and how many darts it has.
 pub fn volume_id(rows: &[u32], marks: &mut [u8], queue: &mut [u32], flags: &[u8], d: u32) -> Answer
     ensures { λ a. ⌜ outcome a (now (marks .exit), now (queue .exit))
         ≡ idCall (now (rows .entry)) (now (marks .entry)) (now (queue .entry)) (now (flags .entry)) Volume d ⌝ }

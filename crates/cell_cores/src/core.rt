@@ -14,9 +14,9 @@ ghost use Prim.Native.Nat.{_<_, _≤_};
 ghost use lib.ListN.{length, take};
 ghost use Rattle.map_betas.specs.Betas.{darts};
 ghost use Rattle.map_betas.specs.Maps.{WellFormed};
-ghost use Rattle.cell_steps.specs.Steps.{stepsBy, cellSteps};
+ghost use Rattle.cell_steps.specs.Steps.{stepsBy};
 ghost use Rattle.cell_steps.specs.Search.{orbit};
-ghost use Rattle.cell_steps.specs.Idents.{least as leastOf, ident, cellOf};
+ghost use Rattle.cell_steps.specs.Idents.{least as leastOf, cellOf};
 ghost use Rattle.cell_steps.specs.Loans.{Zero, AreSteps, Scratch, Clean, Listed};
 
 // Lists the orbit of d under the steps of the policy, and returns how many darts it has.
@@ -58,44 +58,35 @@ fn least(list: &[u32], count: usize) -> u32
     m
 }
 
-// The cell of d of a class by the search: its least dart, and how many darts it has. Marks and queue are 0 before and after.
+// The cell of a real dart d of a class by the search: its least dart, and how many darts it has. Marks and queue are 0 before and after.
 fn search_core(rows: &[u32], class: Class, marks: &mut [u8], queue: &mut [u32], d: u32) -> Cell
-    requires { ⌜ WellFormed (now rows) × (d < darts (now rows)) × Clean (darts (now rows)) (now marks) (now queue) ⌝ }
-    ensures { λ r. ⌜ (now (marks .exit) ≡ now (marks .entry)) × (now (queue .exit) ≡ now (queue .entry)) × (r ≡ cellOf class (now (rows .entry)) d) ⌝ }
+    requires { ⌜ WellFormed (now rows) × (d < darts (now rows)) × Clean (darts (now rows)) (now marks) (now queue) × (0 < d) ⌝ }
+    ensures { λ r. ⌜ r ≡ cellOf class (now (rows .entry)) d ⌝ }
+    ensures { λ r. ⌜ (now (marks .exit) ≡ now (marks .entry)) × (now (queue .exit) ≡ now (queue .entry)) ⌝ }
 {
     let policy = policy_of(class);
     let s = steps_of(policy);
     let codes = s.codes;
     let k = s.count;
-    let count = orbit_core(rows, policy, &codes[..k], marks, queue, d);
-    let low = least(queue, count);
-    wipe_queue(queue, count);
+    let size = orbit_core(rows, policy, &codes[..k], marks, queue, d);
+    let low = least(queue, size);
+    wipe_queue(queue, size);
+    let count = size as u32;
     Cell { least: low, count }
 }
 
-// The cell of d of a class: its least dart, and how many darts it has. Marks and queue are 0 before and after; an edge is walked, and leaves them alone.
-pub(crate) fn cell_core(
-    rows: &[u32],
-    class: Class,
-    marks: &mut [u8],
-    queue: &mut [u32],
-    d: u32,
-) -> Cell
+// The cell of d of a class: its least dart, and how many darts it has; 0 and 0 of the null dart. Marks and queue are 0 before and after; an edge is walked,
+// and leaves them alone.
+pub fn cell_core(rows: &[u32], class: Class, marks: &mut [u8], queue: &mut [u32], d: u32) -> Cell
     requires { ⌜ WellFormed (now rows) × (d < darts (now rows)) × Clean (darts (now rows)) (now marks) (now queue) ⌝ }
-    ensures { λ r. ⌜ (now (marks .exit) ≡ now (marks .entry)) × (now (queue .exit) ≡ now (queue .entry)) × (r ≡ cellOf class (now (rows .entry)) d) ⌝ }
+    ensures { λ r. ⌜ r ≡ cellOf class (now (rows .entry)) d ⌝ }
+    ensures { λ r. ⌜ (now (marks .exit) ≡ now (marks .entry)) × (now (queue .exit) ≡ now (queue .entry)) ⌝ }
 {
+    if d == 0 {
+        return Cell { least: 0, count: 0 };
+    }
     match class {
         Class::Edge => edge_core(rows, d),
         _ => search_core(rows, class, marks, queue, d),
     }
-}
-
-// The name of d's cell of a class: its least dart. Marks and queue are 0 before and after.
-pub fn name_core(rows: &[u32], class: Class, marks: &mut [u8], queue: &mut [u32], d: u32) -> u32
-    requires { ⌜ WellFormed (now rows) × (d < darts (now rows)) × Clean (darts (now rows)) (now marks) (now queue) ⌝ }
-    ensures { λ r. ⌜ r ≡ ident (now (rows .entry)) (cellSteps class) d ⌝ }
-    ensures { λ r. ⌜ (now (marks .exit) ≡ now (marks .entry)) × (now (queue .exit) ≡ now (queue .entry)) ⌝ }
-{
-    let c = cell_core(rows, class, marks, queue, d);
-    c.least
 }

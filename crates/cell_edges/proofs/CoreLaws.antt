@@ -23,7 +23,8 @@ use Rattle.cell_steps.specs.Idents.{leastFrom, least, cellOf}
 use Rattle.cell_steps.proofs.Lists.{norep-le, pigeonhole}
 use Rattle.cell_steps.proofs.SearchLaws.{Ext}
 use Rattle.cell_steps.proofs.OrbitLaws.{orbit-norep, orbit-starts, orbit-sound, orbit-complete}
-use Rattle.cell_steps.proofs.IdentLaws.{least-in, least-le, cell-is, reach-below}
+use Rattle.cell_steps.proofs.IdentLaws.{least-in, least-le, reach-below}
+use Rattle.cell_steps.proofs.SizeLaws.{cell-is}
 use Rattle.cell_edges.specs.Arms.{armOf, endOf, others, edgeWalk}
 use Rattle.cell_edges.proofs.ArmLaws.{Over, others-round, others-open}
 use Rattle.cell_edges.proofs.WalkLaws.{Once, walk-once}
@@ -90,17 +91,17 @@ module _ (class : Class) (rows : List ℕ) (w : WellFormed rows) (d : ℕ) (lt :
       (norep-le (d ∷ l) (orbit rows steps d) (o .norep) (λ x m. orbit-complete rows steps (w .below) d lt (o .only x m)))
       (norep-le (orbit rows steps d) (d ∷ l) (orbit-norep rows steps (w .below) d lt) (λ x m. o .every x (orbit-sound rows steps (w .below) d lt x m)))
 
-  pub once-cell : (low k : ℕ) → low ≡ leastFrom d l → k ≡ 1 + length l → _≡_ {A = Cell} (record { least = low; count = k }) (cellOf class rows d)
+  pub once-cell : 0 < d → (low k : ℕ) → low ≡ leastFrom d l → k ≡ 1 + length l → _≡_ {A = Cell} (record { least = low; count = k }) (cellOf class rows d)
   unfolding least
-  once-cell low k e f =
+  once-cell real low k e f =
       let c : length (d ∷ l) ≡ length (orbit rows steps d) = same-count in
-      cell-is class rows steps d low k refl (e ∙ same-least) (omega arith)
+      cell-is class rows steps d low k (omega arith) refl (e ∙ same-least) (omega arith)
 
-module _ (rows : List ℕ) (w : WellFormed rows) (d : ℕ) (lt : d < darts rows) where
+module _ (rows : List ℕ) (w : WellFormed rows) (d : ℕ) (lt : d < darts rows) (real : 0 < d) where
   -- the edge as the walk finds it
   edge-is : (l : List ℕ) → others rows d ≡ l → (low k : ℕ) → low ≡ leastFrom d l → k ≡ 1 + length l →
       _≡_ {A = Cell} (record { least = low; count = k }) (cellOf Edge rows d)
-  edge-is l e = once-cell Edge rows w d lt l (subst (λ (t : List ℕ). Once rows edge d (d ∷ t)) e (walk-once rows w d lt))
+  edge-is l e = once-cell Edge rows w d lt l (subst (λ (t : List ℕ). Once rows edge d (d ∷ t)) e (walk-once rows w d lt)) real
 
   pub round-cell : (low k e : ℕ) → low ≡ leastFrom d (armOf rows 2 d) → k ≡ 1 + length (armOf rows 2 d) → e ≡ endOf rows 2 d → e ≢ 0 →
       _≡_ {A = Cell} (record { least = low; count = k }) (cellOf Edge rows d)

@@ -15,12 +15,12 @@ ghost use Rattle.cell_edges.specs.Arms.{armOf, endOf};
 // How far a walk has come: the least dart and the number of those that it met, and the image that ended it.
 struct Walk {
     least: u32,
-    count: usize,
+    count: u32,
     end: u32,
 }
 
 // Goes on from d by beta 2 and beta 3 in turn, beta i first, until null comes or d again. Least dart and count begin with what was met before.
-fn walk_arm(rows: &[u32], i: u32, d: u32, least: u32, count: usize) -> Walk
+fn walk_arm(rows: &[u32], i: u32, d: u32, least: u32, count: u32) -> Walk
     requires { ⌜ WellFormed (now rows) × (d < darts (now rows)) × In i edge × (count ≤ darts (now rows)) ⌝ }
     ensures { λ r. ⌜ (r .least ≡ leastFrom least (armOf (now (rows .entry)) i d)) × (r .count ≡ count + length (armOf (now (rows .entry)) i d))
         × (r .end ≡ endOf (now (rows .entry)) i d) ⌝ }
@@ -46,9 +46,9 @@ fn walk_arm(rows: &[u32], i: u32, d: u32, least: u32, count: usize) -> Walk
     }
 }
 
-// The edge of d: its least dart and how many darts it has. Where the first arm came to null, the darts on the other side of d are met by the second.
+// The edge of d, which is real: its least dart and how many darts it has. Where the first arm came to null, the second meets the darts on the other side of d.
 pub fn edge_core(rows: &[u32], d: u32) -> Cell
-    requires { ⌜ WellFormed (now rows) × (d < darts (now rows)) ⌝ }
+    requires { ⌜ WellFormed (now rows) × (d < darts (now rows)) × (0 < d) ⌝ }
     ensures { λ r. ⌜ r ≡ cellOf Edge (now (rows .entry)) d ⌝ }
 {
     let first = walk_arm(rows, 2, d, d, 1);

@@ -1,6 +1,6 @@
 -- The laws of the calls.
 --   id-ready, list-ready        what holds once the guard has passed
---   ident-face, ident-least, list-face, list-least   the two ways to an identifier and to a list
+--   ident-face, ident-cell, list-face, list-least   the two ways to an identifier and to a list
 -- Assumes nothing.
 use Prim.Native.Nat.{ℕ}
 use mathlib.Core.Path.{_≡_, refl, sym, ap, _∙_}
@@ -12,13 +12,14 @@ use Rattle.map_betas.specs.Betas.{darts}
 use Rattle.map_betas.specs.Answers.{isDone}
 use Rattle.map_betas.specs.Guards.{scratchOf, listLoans, Ready}
 use Rattle.map_betas.proofs.GuardLaws.{ready}
+use Rattle.cell_steps.specs.declared.cells.Cell.{Cell}
 use Rattle.cell_steps.specs.declared.cells.Class.{Class}
 use Rattle.cell_steps.specs.declared.cells.Class.the-variants.{Vertex, Edge, Face, Volume}
 use Rattle.cell_steps.specs.Steps.{cellSteps}
-use Rattle.cell_steps.specs.Idents.{ident}
+use Rattle.cell_steps.specs.Idents.{cellOf}
 use Rattle.cell_lists.specs.CellLists.{cellsBy, cellList}
 use Rattle.cell_faces.specs.Faces.{faceId}
-use Rattle.cell_names.specs.Cells.{isFace, identOf, listOf}
+use Rattle.cell_names.specs.Cells.{isFace, identified, listOf}
 use Rattle.cell_names.specs.Calls.{idGuard, listGuard}
 
 pub id-ready : (rows marks queue flags : List ℕ) (d : ℕ) (g : Answer) → g ≡ idGuard rows marks queue flags d → isDone g ≡ true →
@@ -32,17 +33,17 @@ list-ready rows marks queue output flags g e t =
 
 -- the two ways to an identifier and to a list
 module _ (rows : List ℕ) where
-  pub ident-face : (c : Class) (d : ℕ) → isFace c ≡ true → faceId rows d ≡ identOf c rows d
-  ident-face Vertex d e = absurd (true≢false (sym e))
-  ident-face Edge d e = absurd (true≢false (sym e))
-  ident-face Face d e = refl
-  ident-face Volume d e = absurd (true≢false (sym e))
+  pub ident-face : (c : Class) (d x : ℕ) → isFace c ≡ true → x ≡ faceId rows d → _≡_ {A = Cell} (record { least = x; count = 0 }) (identified c rows d)
+  ident-face Vertex d x e f = absurd (true≢false (sym e))
+  ident-face Edge d x e f = absurd (true≢false (sym e))
+  ident-face Face d x e f = λ t. record { least = f t; count = 0 }
+  ident-face Volume d x e f = absurd (true≢false (sym e))
 
-  pub ident-least : (c : Class) (d : ℕ) → isFace c ≡ false → ident rows (cellSteps c) d ≡ identOf c rows d
-  ident-least Vertex d e = refl
-  ident-least Edge d e = refl
-  ident-least Face d e = absurd (true≢false e)
-  ident-least Volume d e = refl
+  pub ident-cell : (c : Class) (d : ℕ) → isFace c ≡ false → cellOf c rows d ≡ identified c rows d
+  ident-cell Vertex d e = refl
+  ident-cell Edge d e = refl
+  ident-cell Face d e = absurd (true≢false e)
+  ident-cell Volume d e = refl
 
   pub list-face : (c : Class) (flags : List ℕ) → isFace c ≡ true → cellsBy (faceId rows) (darts rows) flags ≡ listOf c rows flags
   list-face Vertex flags e = absurd (true≢false (sym e))

@@ -1,14 +1,15 @@
 -- What the calls of identifiers, orbits and lists answer, for a reader.
---   call-vertex-least, call-edge-least, call-volume-least   an identifier's call answers the least dart of the CGAL manual's cell
+--   call-vertex-least, call-edge-least, call-volume-least   an identifier's call answers the least dart of the CGAL manual's cell, and its number of darts
+--   call-null-id         of the null dart it answers 0 and 0
 --   call-orbit           an orbit's call writes the darts that the steps reach, each once, the dart itself first
---   call-unused-id, call-unused-orbit, call-unused-custom   an unused dart is its own identifier, and its orbits are itself alone
+--   call-unused-id, call-unused-orbit, call-unused-custom   an unused dart is its own identifier and alone, and its orbits are itself alone
 --   call-listed          a list's call writes exactly the darts that are not unused and are their own identifier, ascending
 --   id-refused, orbit-refused, custom-refused, list-refused   a refused call leaves every loan
 -- Each but the last for a map, loans that are long enough, and a dart of it, in use or not. Assumes nothing.
 use Prim.Native.Nat.{ℕ, _≤_, _<_}
 use native.Mathlib.Omega.{arith}
 use mathlib.Core.Path.{_≡_, refl, ap, _∙_}
-use mathlib.Core.Logic.{_↔_}
+use mathlib.Core.Logic.{_↔_, _≢_}
 use mathlib.Core.Bool.{Bool, true, false, cond}
 use mathlib.Core.List.{List, [], _∷_}
 use lib.ListN.{length}
@@ -20,8 +21,10 @@ use Rattle.map_betas.specs.Answers.{pass, isDone, andThen, outcome, behind}
 use Rattle.map_betas.specs.Maps.{WellFormed, unused, Map}
 use Rattle.map_betas.specs.Guards.{scratchOf, orbitLoans, listLoans, guardOf, Lent, Dart}
 use Rattle.map_betas.proofs.AnswerLaws.{refused-leaves}
+use Rattle.map_betas.proofs.FreeLaws.{flag-unused}
 use Rattle.map_betas.proofs.Guarded.{guard-iff}
 use Rattle.cell_steps.specs.declared.policy.OrbitPolicy.{OrbitPolicy}
+use Rattle.cell_steps.specs.declared.cells.Cell.{Cell}
 use Rattle.cell_steps.specs.declared.cells.Class.{Class}
 use Rattle.cell_steps.specs.declared.cells.Class.the-variants.{Vertex, Edge, Volume}
 use Rattle.cell_steps.specs.Steps.{stepsOf}
@@ -30,12 +33,13 @@ use Rattle.cell_steps.specs.Cgal.{vertexΦ, edgeΦ, volumeΦ}
 use Rattle.cell_steps.specs.Calls.{wiped, headed, orbitGuard, orbitDone, orbitCall, customTest, customCall}
 use Rattle.cell_steps.proofs.SearchLaws.{Ext}
 use Rattle.cell_steps.proofs.OrbitLaws.{orbit-norep, orbit-starts, orbit-exact}
+use Rattle.cell_steps.proofs.SizeLaws.{Counts}
 use Rattle.cell_lists.specs.CellLists.{Ascending}
 use Rattle.cell_lists.proofs.MemberLaws.{Own}
-use Rattle.cell_names.specs.Cells.{identOf, listOf}
+use Rattle.cell_names.specs.Cells.{isFace, identified, identOf, listOf}
 use Rattle.cell_names.specs.Calls.{idGuard, idDone, idCall, listGuard, listDone, listCall}
 use Rattle.cell_names.proofs.IdentifierLaws.{Least, vertex-least, edge-least, volume-least, listed-exactly, listed-ascending}
-use Rattle.cell_names.proofs.IdentifierLaws.{free-ident, free-orbit, free-custom}
+use Rattle.cell_names.proofs.IdentifierLaws.{vertex-size, edge-size, volume-size, free-ident, free-size, free-orbit, free-custom, null-ident}
 
 module _ (rows flags marks : List ℕ) (map : Map rows flags) (m : darts rows ≤ length marks) where
   w : WellFormed rows
@@ -57,22 +61,38 @@ module _ (rows flags marks : List ℕ) (map : Map rows flags) (m : darts rows �
         admits (scratchOf (length marks) (length queue))
         (record { marks = m; queue = q; output = omega arith; vertices = omega arith; coordinates = omega arith }) d h
 
-    answered : (class : Class) → idCall rows marks queue flags class d .answer ≡ Done (identOf class rows d) 0
+    abbrev says : Cell → Answer
+    says c = Done (c .least) (c .count)
+
+    answered : (class : Class) → idCall rows marks queue flags class d .answer ≡ says (identified class rows d)
     unfolding idCall
     answered class = ap (λ (g : Answer). behind g (marks, queue) (idDone rows marks queue class d) .answer) id-passes
 
-    pub call-vertex-least : (x : ℕ) × (idCall rows marks queue flags Vertex d .answer ≡ Done x 0) × Least rows vertexΦ d x
-    call-vertex-least = (identOf Vertex rows d, answered Vertex, vertex-least rows w d h)
+    -- the answer x with k: x is the least dart of d's cell, and k the number of its darts
+    abbrev pub Told : Class → List (List ℕ) → Type 0
+    Told class Φ = (x : ℕ) × (k : ℕ) × (idCall rows marks queue flags class d .answer ≡ Done x k) × Least rows Φ d x × (d ≢ 0 → Counts rows Φ d k)
 
-    pub call-edge-least : (x : ℕ) × (idCall rows marks queue flags Edge d .answer ≡ Done x 0) × Least rows edgeΦ d x
-    call-edge-least = (identOf Edge rows d, answered Edge, edge-least rows w d h)
+    pub call-vertex-least : Told Vertex vertexΦ
+    call-vertex-least =
+        (identified Vertex rows d .least, identified Vertex rows d .count, answered Vertex, vertex-least rows w d h, vertex-size rows w d h)
 
-    pub call-volume-least : (x : ℕ) × (idCall rows marks queue flags Volume d .answer ≡ Done x 0) × Least rows volumeΦ d x
-    call-volume-least = (identOf Volume rows d, answered Volume, volume-least rows w d h)
+    pub call-edge-least : Told Edge edgeΦ
+    call-edge-least = (identified Edge rows d .least, identified Edge rows d .count, answered Edge, edge-least rows w d h, edge-size rows w d h)
 
-    -- an unused dart is its own identifier, of every class
-    pub call-unused-id : unused flags d ≡ true → (class : Class) → idCall rows marks queue flags class d .answer ≡ Done d 0
-    call-unused-id u class = answered class ∙ ap (λ (x : ℕ). Done x 0) (free-ident rows w d (map .free d u) class)
+    pub call-volume-least : Told Volume volumeΦ
+    call-volume-least =
+        (identified Volume rows d .least, identified Volume rows d .count, answered Volume, volume-least rows w d h, volume-size rows w d h)
+
+    pub call-null-id : d ≡ 0 → (class : Class) → idCall rows marks queue flags class d .answer ≡ Done 0 0
+    call-null-id z class = answered class ∙ ap (λ (x : ℕ). says (identified class rows x)) z ∙ ap says (null-ident rows w class)
+
+    -- an unused dart is its own identifier, of every class, and alone in its cells
+    pub call-unused-id : unused flags d ≡ true → (class : Class) → idCall rows marks queue flags class d .answer ≡ Done d (cond (isFace class) 0 1)
+    call-unused-id u class =
+        let f = map .free d u in
+        let e = free-ident rows w d f class in
+        let k = free-size rows w d f (flag-unused flags d u .0) class in
+        answered class ∙ (λ t. Done (e t) (k t))
 
   -- ---- orbits
 

@@ -10,7 +10,7 @@ use Rattle.map_betas.specs.Maps.{badSize, breaks, breachAt, freeAt, unused, bou
 use Rattle.map_betas.specs.Guards.{loanTest, noDart, mapGuard, guardOf}
 use Rattle.cell_steps.specs.Steps.{image}
 use Rattle.cell_steps.specs.Search.{mem, add, visit, search, orbit}
-use Rattle.cell_steps.specs.Idents.{leastFrom, least, ident}
+use Rattle.cell_steps.specs.Idents.{leastFrom, least, ident, sizeOf}
 use Rattle.cell_lists.specs.CellLists.{cellsFrom, cellsBy}
 use Rattle.cell_faces.specs.Faces.{fresh, insert, lower, turn, leg, forward, backward, faceWalk, faceId}
 use Rattle.cell_steps.specs.declared.cells.Class.the-variants.{Vertex, Edge, Face, Volume}
@@ -52,11 +52,11 @@ unfolding bent image mem add visit search orbit leastFrom least ident cellsFrom 
     noDart mapGuard guardOf listCall
 unused-call = refl
 
--- it is its own identifier
+-- it is its own identifier, and alone
 unused-id : idCall bent (7 ∷ 7 ∷ 7 ∷ 7 ∷ []) (8 ∷ 8 ∷ 8 ∷ 8 ∷ []) (0 ∷ 0 ∷ 1 ∷ 0 ∷ []) Volume 2
-    ≡ outcome (Done 2 0) (0 ∷ 0 ∷ 0 ∷ 0 ∷ [], 0 ∷ 0 ∷ 0 ∷ 0 ∷ [])
-unfolding bent image mem add visit search orbit leastFrom least ident cellsFrom cellsBy badSize breaks breachAt freeAt unused bound firstBreach mapTest loanTest
-    noDart mapGuard guardOf idCall
+    ≡ outcome (Done 2 1) (0 ∷ 0 ∷ 0 ∷ 0 ∷ [], 0 ∷ 0 ∷ 0 ∷ 0 ∷ [])
+unfolding bent image mem add visit search orbit leastFrom least ident sizeOf cellsFrom cellsBy badSize breaks breachAt freeAt unused bound firstBreach
+    mapTest loanTest noDart mapGuard guardOf idCall
 unused-id = refl
 
 -- unused darts that are linked: the least is named
@@ -65,9 +65,9 @@ bound-call : listCall triangle (7 ∷ 7 ∷ 7 ∷ 7 ∷ []) (8 ∷ 8 ∷ 8 ∷ 8
 unfolding triangle badSize breaks breachAt freeAt unused bound firstBreach mapTest loanTest mapGuard guardOf listCall
 bound-call = refl
 
-id-call : idCall triangle (7 ∷ 7 ∷ 7 ∷ 7 ∷ 7 ∷ []) (8 ∷ 8 ∷ 8 ∷ 8 ∷ []) used Volume 3 ≡ outcome (Done 1 0) (0 ∷ 0 ∷ 0 ∷ 0 ∷ 7 ∷ [], 0 ∷ 0 ∷ 0 ∷ 0 ∷ [])
-unfolding triangle image mem add visit search orbit leastFrom least ident cellsFrom cellsBy badSize breaks breachAt freeAt unused bound firstBreach mapTest
-    loanTest noDart mapGuard guardOf idCall
+id-call : idCall triangle (7 ∷ 7 ∷ 7 ∷ 7 ∷ 7 ∷ []) (8 ∷ 8 ∷ 8 ∷ 8 ∷ []) used Volume 3 ≡ outcome (Done 1 3) (0 ∷ 0 ∷ 0 ∷ 0 ∷ 7 ∷ [], 0 ∷ 0 ∷ 0 ∷ 0 ∷ [])
+unfolding triangle image mem add visit search orbit leastFrom least ident sizeOf cellsFrom cellsBy badSize breaks breachAt freeAt unused bound firstBreach
+    mapTest loanTest noDart mapGuard guardOf idCall
 id-call = refl
 
 face-call : idCall triangle (7 ∷ 7 ∷ 7 ∷ 7 ∷ []) (8 ∷ 8 ∷ 8 ∷ 8 ∷ []) used Face 2 ≡ outcome (Done 1 0) (0 ∷ 0 ∷ 0 ∷ 0 ∷ [], 0 ∷ 0 ∷ 0 ∷ 0 ∷ [])
@@ -76,8 +76,8 @@ unfolding triangle image mem add fresh insert lower turn leg forward backward fa
 face-call = refl
 
 null-call : idCall triangle (7 ∷ 7 ∷ 7 ∷ 7 ∷ []) (8 ∷ 8 ∷ 8 ∷ 8 ∷ []) used Edge 0 ≡ outcome (Done 0 0) (0 ∷ 0 ∷ 0 ∷ 0 ∷ [], 0 ∷ 0 ∷ 0 ∷ 0 ∷ [])
-unfolding triangle image mem add visit search orbit leastFrom least ident cellsFrom cellsBy badSize breaks breachAt freeAt unused bound firstBreach mapTest
-    loanTest noDart mapGuard guardOf idCall
+unfolding triangle image mem add visit search orbit leastFrom least ident sizeOf cellsFrom cellsBy badSize breaks breachAt freeAt unused bound firstBreach
+    mapTest loanTest noDart mapGuard guardOf idCall
 null-call = refl
 
 -- refused: the second loan, the fourth, the map, the dart; marks and queue stay as they were

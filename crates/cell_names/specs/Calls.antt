@@ -11,11 +11,12 @@ use Rattle.map_betas.specs.Answers.{Outcome, outcome, behind}
 use Rattle.map_betas.specs.Guards.{scratchOf, listLoans, guardOf}
 use Rattle.cell_steps.specs.Calls.{wiped, headed}
 use Rattle.cell_steps.specs.declared.cells.Class.{Class}
-use Rattle.cell_names.specs.Cells.{identOf, listOf}
+use Rattle.cell_names.specs.Cells.{identified, listOf}
 
--- what an identifier leaves once its tests have passed (scope: scratch)
+-- what an identifier answers and leaves once its tests have passed: name and size (scope: identifier, scratch)
 abbrev pub idDone : List ℕ → List ℕ → List ℕ → Class → ℕ → Outcome (List ℕ × List ℕ)
-idDone rows marks queue class d = outcome (Done (identOf class rows d) 0) (wiped (darts rows) marks, wiped (darts rows) queue)
+idDone rows marks queue class d =
+    outcome (Done (identified class rows d .least) (identified class rows d .count)) (wiped (darts rows) marks, wiped (darts rows) queue)
 
 abbrev pub idGuard : List ℕ → List ℕ → List ℕ → List ℕ → ℕ → Answer
 idGuard rows marks queue flags d = guardOf rows flags (scratchOf (length marks) (length queue)) 0 d d

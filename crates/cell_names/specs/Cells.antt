@@ -1,15 +1,17 @@
 -- The identifier and the list of each class of cells.
 --   isFace class              whether the Rust takes identifier and list of the class by a walk of its own
---   identOf class rows d      the identifier of d's cell
+--   identified class rows d   what the identifier says of d's cell: its name, and how many darts it has
+--   identOf class rows d      the name alone
 --   listOf class rows flags   the list of the cells
 use Prim.Native.Nat.{ℕ}
 use mathlib.Core.Bool.{Bool, true, false}
 use mathlib.Core.List.{List}
 use Rattle.map_betas.specs.Betas.{darts}
 use Rattle.cell_steps.specs.Steps.{vertex, edge, volume}
-use Rattle.cell_steps.specs.Idents.{ident}
+use Rattle.cell_steps.specs.Idents.{ident, cellOf}
 use Rattle.cell_lists.specs.CellLists.{cellsBy}
 use Rattle.cell_faces.specs.Faces.{faceId}
+use Rattle.cell_steps.specs.declared.cells.Cell.{Cell}
 use Rattle.cell_steps.specs.declared.cells.Class.{Class}
 use Rattle.cell_steps.specs.declared.cells.Class.the-variants.{Vertex, Edge, Face, Volume}
 
@@ -19,12 +21,15 @@ isFace Edge = false
 isFace Face = true
 isFace Volume = false
 
--- the identifier of each class: the least of its orbit, but for faces, which go by the published walk (scope: identifier, face_id)
+-- each class has the least dart and the size of its orbit, but for faces, which go by the published walk and are not counted (scope: identifier, face_id)
+abbrev pub identified : Class → List ℕ → ℕ → Cell
+identified Vertex rows d = cellOf Vertex rows d
+identified Edge rows d = cellOf Edge rows d
+identified Face rows d = record { least = faceId rows d; count = 0 }
+identified Volume rows d = cellOf Volume rows d
+
 abbrev pub identOf : Class → List ℕ → ℕ → ℕ
-identOf Vertex rows d = ident rows vertex d
-identOf Edge rows d = ident rows edge d
-identOf Face rows d = faceId rows d
-identOf Volume rows d = ident rows volume d
+identOf class rows d = identified class rows d .least
 
 -- the list of each class (scope: list)
 abbrev pub listOf : Class → List ℕ → List ℕ → List ℕ

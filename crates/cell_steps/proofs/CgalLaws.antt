@@ -132,22 +132,22 @@ module _ (rows : List ℕ) (w : WellFormed rows) (steps : List ℕ) (Φ : List (
 
 -- ---- the four classes
 
-abbrev at0 : {A : Type 0} {x : A} {l : List A} → List·Memᴰ x (x ∷ l)
+abbrev pub at0 : {A : Type 0} {x : A} {l : List A} → List·Memᴰ x (x ∷ l)
 at0 = List·Memᴰ·head refl
 
-abbrev at1 : {A : Type 0} {x y0 : A} {l : List A} → List·Memᴰ x (y0 ∷ x ∷ l)
+abbrev pub at1 : {A : Type 0} {x y0 : A} {l : List A} → List·Memᴰ x (y0 ∷ x ∷ l)
 at1 = List·Memᴰ·tail at0
 
-abbrev at2 : {A : Type 0} {x y0 y1 : A} {l : List A} → List·Memᴰ x (y0 ∷ y1 ∷ x ∷ l)
+abbrev pub at2 : {A : Type 0} {x y0 y1 : A} {l : List A} → List·Memᴰ x (y0 ∷ y1 ∷ x ∷ l)
 at2 = List·Memᴰ·tail at1
 
-abbrev at3 : {A : Type 0} {x y0 y1 y2 : A} {l : List A} → List·Memᴰ x (y0 ∷ y1 ∷ y2 ∷ x ∷ l)
+abbrev pub at3 : {A : Type 0} {x y0 y1 y2 : A} {l : List A} → List·Memᴰ x (y0 ∷ y1 ∷ y2 ∷ x ∷ l)
 at3 = List·Memᴰ·tail at2
 
-abbrev at4 : {A : Type 0} {x y0 y1 y2 y3 : A} {l : List A} → List·Memᴰ x (y0 ∷ y1 ∷ y2 ∷ y3 ∷ x ∷ l)
+abbrev pub at4 : {A : Type 0} {x y0 y1 y2 y3 : A} {l : List A} → List·Memᴰ x (y0 ∷ y1 ∷ y2 ∷ y3 ∷ x ∷ l)
 at4 = List·Memᴰ·tail at3
 
-abbrev at5 : {A : Type 0} {x y0 y1 y2 y3 y4 : A} {l : List A} → List·Memᴰ x (y0 ∷ y1 ∷ y2 ∷ y3 ∷ y4 ∷ x ∷ l)
+abbrev pub at5 : {A : Type 0} {x y0 y1 y2 y3 y4 : A} {l : List A} → List·Memᴰ x (y0 ∷ y1 ∷ y2 ∷ y3 ∷ y4 ∷ x ∷ l)
 at5 = List·Memᴰ·tail at4
 
 pub vertex-serves : Serves vertex vertexΦ

@@ -4,7 +4,6 @@
 --   reach-below, reach-real, reach-symm    what is reached is a dart; is not null; is reached back
 --   ident-same, ident-one, ident-twice     darts have one identifier exactly where they are in one orbit
 --   Lowest, lowest-..   the loop of `least`
---   cell-is             the two numbers that the core finds are the cell
 -- Assumes nothing.
 use mathlib.Core.Path.{_≡_, refl, sym, ap, _∙_, subst}
 use mathlib.Core.Logic.{_⊎_, inl, inr, ⊎-elim}
@@ -19,11 +18,8 @@ use lib.ListN.{length, getD, take, drop, drop-of-length-le}
 use lib.Seq.{length-take-le, drop-cons, getD-take}
 use borrow.Author.Tests.{leb-true, leb-false}
 use Rattle.map_betas.specs.Betas.{darts}
-use Rattle.cell_steps.specs.declared.cells.Class.{Class}
-use Rattle.cell_steps.specs.declared.cells.Cell.{Cell}
-use Rattle.cell_steps.specs.Steps.{cellSteps}
-use Rattle.cell_steps.specs.Idents.{leastFrom, least, ident, cellOf}
-use Rattle.cell_steps.specs.Search.{In, orbit, Reach, Bounded, Symmetric}
+use Rattle.cell_steps.specs.Idents.{leastFrom, least, ident}
+use Rattle.cell_steps.specs.Search.{In, Reach, Bounded, Symmetric}
 use Rattle.cell_steps.proofs.Lists.{bool}
 use Rattle.cell_steps.proofs.SearchLaws.{Ext}
 use Rattle.cell_steps.proofs.OrbitLaws.{orbit-starts, orbit-sound, orbit-complete, orbit-below}
@@ -142,12 +138,3 @@ module _ (list : List ℕ) (count : ℕ) (w : count ≤ length list) where
   lowest-ends m i v h =
       let e : length (take count list) ≤ i = omega (arith, length-take-le count list w) in
       ap (leastFrom m) (sym (drop-of-length-le (take count list) e)) ∙ v .left
-
--- the two numbers that the core finds are the cell
-pub cell-is : (class : Class) (rows steps : List ℕ) (d low k : ℕ) → steps ≡ cellSteps class → low ≡ least (orbit rows steps d) →
-    k ≡ length (orbit rows steps d) → _≡_ {A = Cell} (record { least = low; count = k }) (cellOf class rows d)
-unfolding ident
-cell-is class rows steps d low k s e f =
-    let e′ = e ∙ ap (λ (l : List ℕ). least (orbit rows l d)) s in
-    let f′ = f ∙ ap (λ (l : List ℕ). length (orbit rows l d)) s in
-    λ t. record { least = e′ t; count = f′ t }

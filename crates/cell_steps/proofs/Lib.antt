@@ -12,6 +12,8 @@
 --   ScratchLaws  scratch that is wiped and lent on
 --   CallLaws     the calls, case by case
 --   CellLaws     what orbits are, for a reader
+--   SizeLaws     how many darts a cell has
+--   JoinLaws     two orbits that become one
 --   Examples     worked examples, computed
 pub mod Lists
 pub mod ChainLaws
@@ -26,4 +28,6 @@ pub mod VisitLaws
 pub mod ScratchLaws
 pub mod CallLaws
 pub mod CellLaws
+pub mod SizeLaws
+pub mod JoinLaws
 pub mod Examples

@@ -1,6 +1,6 @@
 -- The laws of steps.
 --   Each, each-at, each-place   a property of each member of a written list, given member by member
---   steps-are                   the steps of every policy are steps
+--   steps-are, step-of          the steps of every policy are steps
 --   policy-by                   a search by a policy over its own steps
 --   class-steps                 the steps of the policy of a class
 --   codes-fit                   the steps as the code has them
@@ -23,7 +23,8 @@ use Rattle.cell_steps.specs.declared.cells.Class.{Class}
 use Rattle.cell_steps.specs.declared.cells.Class.the-variants as class
 use Rattle.cell_steps.specs.Steps.{image, IsStep, stepsOf, codesOf, stepsBy, policyOf, cellSteps}
 use Rattle.cell_steps.specs.Loans.{AreSteps}
-use Rattle.cell_steps.proofs.Lists.{in-at}
+use Rattle.cell_steps.specs.Search.{In}
+use Rattle.cell_steps.proofs.Lists.{in-at, at-in}
 
 abbrev pub Each : {A : Type 0} → (A → Type 0) → List A → Type 0
 Each P [] = Unit {0}
@@ -46,6 +47,9 @@ steps-are FaceLinear = record { each = each-place IsStep (stepsOf FaceLinear) (o
 steps-are Volume = record { each = each-place IsStep (stepsOf Volume) (omega arith) }
 steps-are VolumeLinear = record { each = each-place IsStep (stepsOf VolumeLinear) (omega arith) }
 steps-are Custom = record { each = λ j h. absurd (not-suc-le-zero h) }
+
+pub step-of : (p : OrbitPolicy) (c : ℕ) → In c (stepsOf p) → IsStep c
+step-of p c m = let q = at-in m in subst IsStep (q .2) (steps-are p .each (q .0) (q .1))
 
 -- a search by a class's policy, over the steps that the code has for it
 module _ (c : Class) (p : OrbitPolicy) (e : p ≡ policyOf c) (steps : List ℕ) (s : steps ≡ stepsOf p) where

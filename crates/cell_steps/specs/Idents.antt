@@ -2,9 +2,12 @@
 --   leastFrom x l       the least of x and the list l
 --   least l             the least of a list; 0 of none
 --   ident rows steps d  the least dart of the orbit of d: its cell's identifier
---   cellOf class rows d the identifier and the number of darts of d's cell, as the core returns them
+--   sizeOf class rows d how many darts d's cell has
+--   cellOf class rows d the identifier and the size of d's cell, as the core returns them
 use Prim.Native.Nat.{ℕ, min}
+use mathlib.Core.Bool.{cond}
 use mathlib.Core.List.{List, [], _∷_}
+use lib.Dec.{eqb}
 use lib.ListN.{length}
 use Rattle.cell_steps.specs.declared.cells.Class.{Class}
 use Rattle.cell_steps.specs.declared.cells.Cell.{Cell}
@@ -24,5 +27,9 @@ least (x ∷ l) = leastFrom x l
 unfoldable pub ident : List ℕ → List ℕ → ℕ → ℕ
 ident rows steps d = least (orbit rows steps d)
 
+-- scope: identifier. As many as the orbit has; the null dart is of no cell, and its size is 0.
+unfoldable pub sizeOf : Class → List ℕ → ℕ → ℕ
+sizeOf class rows d = cond (eqb d 0) 0 (length (orbit rows (cellSteps class) d))
+
 abbrev pub cellOf : Class → List ℕ → ℕ → Cell
-cellOf class rows d = record { least = ident rows (cellSteps class) d; count = length (orbit rows (cellSteps class) d) }
+cellOf class rows d = record { least = ident rows (cellSteps class) d; count = sizeOf class rows d }

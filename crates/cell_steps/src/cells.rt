@@ -8,8 +8,8 @@ pub enum Class {
     Volume,
 }
 
-// A cell: its least dart and how many darts it has.
+// A cell: its least dart, which is its name, and how many darts it has. The null dart's is 0 and 0.
 pub struct Cell {
     pub least: u32,
-    pub count: usize,
+    pub count: u32,
 }

@@ -5,11 +5,11 @@
 --   core-held     the numbers of an answer are of 32 bits, the plan stays as long as it was, and the entries written fit it
 --   run-fits, run-long, run-room   the same of an operation's number
 -- Assumes nothing.
-use Prim.Native.Nat.{ℕ, zero, suc, _+_, _*_, _<_, _≤_}
+use Prim.Native.Nat.{ℕ, _*_, _<_, _≤_}
 use native.Mathlib.Omega.{arith}
 use mathlib.Core.Path.{_≡_, refl}
-use mathlib.Core.Bool.{Bool, true, false, cond, not, _&&_}
-use mathlib.Core.List.{List, [], _∷_}
+use mathlib.Core.Bool.{Bool, true, false, cond, not}
+use mathlib.Core.List.{List, []}
 use lib.Dec.{eqb, leb}
 use lib.Ieee.{Float}
 use lib.ListN.{length, length-append, length-drop}
@@ -30,21 +30,20 @@ use Rattle.link_walk.proofs.Kept.{unlink-kept}
 use Rattle.link_run.specs.declared.links.Link.{Link}
 use Rattle.link_run.specs.Links.{PlainRefusal, Plain, linkOn, linkSecond, linkTested}
 use Rattle.link_run.proofs.LinkLaws.{either-plain, core-plain, uncore-plain, three-unlink-plain, link-plain}
-use Rattle.cell_steps.specs.declared.cells.Class.{Class}
 use Rattle.cell_steps.specs.declared.cells.Class.the-variants.{Vertex, Edge}
 use Rattle.sew_plan.specs.declared.Kind.{Kind}
 use Rattle.sew_plan.specs.declared.Kind.the-variants.{Merge, Split}
 use Rattle.sew_plan.specs.declared.Entry.{Entry}
 use Rattle.sew_plan.specs.Plan.{width, roomOf, putPlan}
 use Rattle.sew_plan.proofs.PlanLaws.{length-planOf}
-use Rattle.sew_ground.specs.Ids.{vertexId, edgeId}
-use Rattle.sew_ground.specs.Entries.{entryOf, entriesIf}
+use Rattle.cell_steps.specs.Idents.{cellOf}
 use Rattle.sew_ground.specs.Sewn.{Sewn, Work, work, leaves, dartOf, Settled, settles, settled, afterPlan, sewn}
 use Rattle.sew_ground.specs.One.{bothThree, oneFar, oneEntries, orBack, oneLinks, oneSewOn, secondCut, agrees, oneUnlinks, oneUnsewOn}
 use Rattle.sew_ground.specs.declared.sides.Side.{Side}
 use Rattle.sew_ground.specs.Two.{sideOf, twoEntries, badSides, linkedSides, twoSewOn, twoUnsewOn}
-use Rattle.sew_pairs.specs.Pairs.{Pairs, threeFar, pairEntries, entriesOf, legOver, pairsFrom, legPairs}
-use Rattle.sew_pairs.specs.Three.{firstPairs, firstEnd, backPairs, pairsOf, splitsOf, threeEntries, threeUnsewOn}
+use Rattle.sew_ground.proofs.EntryLaws.{if-few}
+use Rattle.sew_pairs.specs.Three.{threeUnsewOn}
+use Rattle.sew_pairs.proofs.FewLaws.{pairs-most, unsew-most}
 use Rattle.sew_operations.specs.declared.operations.Operation.{Operation}
 use Rattle.sew_operations.specs.declared.operations.Operation.the-variants.{OneSew, OneUnsew, TwoSew, TwoUnsew, ThreeUnsew}
 use Rattle.sew_operations.specs.Operations.{workOf}
@@ -129,61 +128,6 @@ work-plain ThreeUnsew vertices coordinates rows ld rd = three-unlink-plain rows 
 
 -- ---- how many entries a sew has
 
-if-few : (asked : Bool) (c : Class) (k : Kind) (left right : ℕ) → length (entriesIf asked c k left right) ≤ 1
-unfolding entriesIf
-if-few asked c k left right = go (asked && not (eqb left right))
-  where
-    go : (b : Bool) → length (cond b (entryOf c k left right ∷ []) []) ≤ 1
-    go true = omega arith
-    go false = omega arith
-
-pairs-few : (f : ℕ) (rows : List ℕ) (i j stop l r : ℕ) → length (pairsFrom f rows i j stop l r) ≤ f
-unfolding pairsFrom
-pairs-few zero rows i j stop l r = omega arith
-pairs-few (suc f) rows i j stop l r = go (legOver l stop) (pairs-few f rows i j stop (beta rows i l) (beta rows j r))
-  where
-    go : (b : Bool) → length (pairsFrom f rows i j stop (beta rows i l) (beta rows j r)) ≤ f →
-        length (cond b [] ((l, r) ∷ pairsFrom f rows i j stop (beta rows i l) (beta rows j r))) ≤ suc f
-    go true h = omega arith
-    go false h = omega arith
-
-pair-few : (rows : List ℕ) (l r : ℕ) → length (pairEntries rows l r) ≤ 3
-unfolding pairEntries
-pair-few rows l r =
-    let a = if-few true Edge Split (edgeId rows l) (edgeId rows r) in
-    let b = if-few true Vertex Split (vertexId rows (threeFar rows l)) (vertexId rows r) in
-    let c = if-few (eqb (beta rows 0 l) 0) Vertex Split (vertexId rows l) (vertexId rows (threeFar rows r)) in
-    simp length-append (omega arith)
-
-splits-few : (rows : List ℕ) (ps : Pairs) → length (entriesOf rows ps) ≤ 3 * length ps
-unfolding entriesOf
-splits-few rows [] = omega arith
-splits-few rows (p ∷ ps) =
-    let h : length (entriesOf rows ps) ≤ 3 * length ps = splits-few rows ps in
-    let e : length (pairEntries rows (p .0) (p .1)) ≤ 3 = pair-few rows (p .0) (p .1) in
-    simp length-append (omega arith)
-
-module _ (rows : List ℕ) (ld rd : ℕ) where
-  back-few : length (backPairs rows ld rd) ≤ length rows
-  unfolding backPairs
-  back-few = go (eqb (firstEnd rows ld) 0)
-    where
-      go : (b : Bool) → length (cond b (legPairs rows 0 1 0 (beta rows 0 ld) (beta rows 1 rd)) []) ≤ length rows
-      go true = pairs-few (length rows) rows 0 1 0 (beta rows 0 ld) (beta rows 1 rd)
-      go false = omega arith
-
-  first-few : length (firstPairs rows ld rd) ≤ length rows
-  unfolding firstPairs
-  first-few = pairs-few (length rows) rows 1 0 ld (beta rows 1 ld) (beta rows 0 rd)
-
-  all-few : length (pairsOf rows ld rd) ≤ 1 + 2 * length rows
-  unfolding pairsOf
-  all-few = let a = first-few in let b = back-few in simp length-append (omega arith)
-
-  unsew-few : length (threeEntries rows ld rd) ≤ 4 + 6 * length rows
-  unfolding threeEntries splitsOf
-  unsew-few = let a = all-few in let b = splits-few rows (pairsOf rows ld rd) in omega arith
-
 few-work : (b : Bool) (x y : Work) (k : ℕ) → length (x .entries) ≤ k → length (y .entries) ≤ k → length (cond b x y .entries) ≤ k
 few-work true x y k p q = p
 few-work false x y k p q = q
@@ -199,7 +143,7 @@ two-few k l r =
 one-few : (k : Kind) (rows : List ℕ) (ld rd : ℕ) → length (oneEntries k rows ld rd) ≤ 3
 unfolding oneEntries
 one-few k rows ld rd =
-    let h = if-few (not (eqb (oneFar rows ld) 0)) Vertex k (vertexId rows (oneFar rows ld)) (vertexId rows rd) in
+    let h = if-few (not (eqb (oneFar rows ld) 0)) Vertex k (cellOf Vertex rows (oneFar rows ld)) (cellOf Vertex rows rd) in
     omega arith
 
 module _ (vertices : List ℕ) (coordinates : List Float) (rows : List ℕ) (w : WellFormed rows) where
@@ -225,8 +169,9 @@ module _ (vertices : List ℕ) (coordinates : List Float) (rows : List ℕ) (w :
       let x = d .allowed in
       let q : length (threeUnlinkOn rows ld .rows) ≡ length rows = unlink-kept rows ld w (d .below) (omega arith) .1 in
       let s = small in
-      let h = unsew-few (threeUnlinkOn rows ld .rows) ld (dartOf (threeUnlinkOn rows ld .answer)) in
-      omega (arith, h)
+      let rows₁ : List ℕ = threeUnlinkOn rows ld .rows in
+      let rd₁ : ℕ = dartOf (threeUnlinkOn rows ld .answer) in
+      omega (arith, unsew-most rows₁ ld rd₁, pairs-most rows₁ ld rd₁)
 
 -- ---- with the room that a plan has
 

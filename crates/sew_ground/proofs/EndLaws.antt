@@ -15,11 +15,12 @@ use Rattle.map_betas.specs.Cores.{linkCore, unlinkCore}
 use Rattle.map_betas.specs.Guards.{Dart}
 use Rattle.map_betas.specs.Maps.{WellFormed}
 use Rattle.map_betas.proofs.Kept.{link-pair, unlink-pair, link-refused, unlink-refused, link-undoes, unlink-undoes}
+use Rattle.cell_steps.specs.declared.cells.Cell.{Cell}
 use Rattle.cell_steps.specs.declared.cells.Class.the-variants.{Vertex}
+use Rattle.cell_steps.specs.Idents.{cellOf}
 use Rattle.sew_plan.specs.declared.Kind.{Kind}
 use Rattle.sew_plan.specs.declared.Kind.the-variants.{Merge, Split}
 use Rattle.sew_plan.specs.declared.Entry.{Entry}
-use Rattle.sew_ground.specs.Ids.{vertexId}
 use Rattle.sew_ground.specs.declared.sides.Side.{Side}
 use Rattle.sew_ground.specs.Entries.{entriesIf}
 use Rattle.sew_ground.specs.Sewn.{leaves, dartOf, settles, settled, sewn}
@@ -30,16 +31,16 @@ use Rattle.sew_ground.proofs.OneBack.{links-kept, links-dart, taken-bac
 use Rattle.sew_ground.proofs.SewnLaws.{ends-refused, ends-tight, ends-done}
 
 -- the vertices of a 1-sew, from what the code has read
-pub one-items-are : (kind : Kind) (rows : List ℕ) (ld rd b₃ b₂ far vl vr : ℕ) (es : List Entry) → b₃ ≡ beta rows 3 ld → b₂ ≡ beta rows 2 ld →
+pub one-items-are : (kind : Kind) (rows : List ℕ) (ld rd b₃ b₂ far : ℕ) (vl vr : Cell) (es : List Entry) → b₃ ≡ beta rows 3 ld → b₂ ≡ beta rows 2 ld →
     far ≡ larger b₃ b₂ →
-    vl ≡ vertexId rows far → vr ≡ vertexId rows rd → es ≡ entriesIf (not (eqb far 0)) Vertex kind vl vr → es ≡ oneEntries kind rows ld rd
+    vl ≡ cellOf Vertex rows far → vr ≡ cellOf Vertex rows rd → es ≡ entriesIf (not (eqb far 0)) Vertex kind vl vr → es ≡ oneEntries kind rows ld rd
 unfolding oneEntries
 one-items-are kind rows ld rd b₃ b₂ far vl vr es p₃ p₂ pf pl pr pe =
     let q : far ≡ oneFar rows ld = pf ∙ ap (λ (x : ℕ). larger x b₂) p₃ ∙ ap (λ (x : ℕ). larger (beta rows 3 ld) x) p₂ in
     pe
-    ∙ ap (λ (x : ℕ). entriesIf (not (eqb far 0)) Vertex kind x vr) (pl ∙ ap (vertexId rows) q)
-    ∙ ap (λ (x : ℕ). entriesIf (not (eqb far 0)) Vertex kind (vertexId rows (oneFar rows ld)) x) pr
-    ∙ ap (λ (x : ℕ). entriesIf (not (eqb x 0)) Vertex kind (vertexId rows (oneFar rows ld)) (vertexId rows rd)) q
+    ∙ ap (λ (x : Cell). entriesIf (not (eqb far 0)) Vertex kind x vr) (pl ∙ ap (cellOf Vertex rows) q)
+    ∙ ap (λ (x : Cell). entriesIf (not (eqb far 0)) Vertex kind (cellOf Vertex rows (oneFar rows ld)) x) pr
+    ∙ ap (λ (x : ℕ). entriesIf (not (eqb x 0)) Vertex kind (cellOf Vertex rows (oneFar rows ld)) (cellOf Vertex rows rd)) q
 
 -- the 1-sew
 

@@ -1,13 +1,15 @@
--- Entries that are there or not (`none-asked`, `none-differs`, `one-differs`), and entries written behind each other: in two parts (`written-both`),
--- and from a plan's start (`written-put`). Assumes nothing.
-use Prim.Native.Nat.{ℕ, _+_}
+-- Entries that are there or not (`none-asked`, `none-differs`, `one-differs`; one at most: `if-few`), and entries written behind each other: in two
+-- parts (`written-both`), and from a plan's start (`written-put`). Assumes nothing.
+use Prim.Native.Nat.{ℕ, _+_, _≤_}
 use native.Mathlib.Omega.{arith}
 use mathlib.Core.Path.{_≡_, refl, sym, ap, _∙_}
 use mathlib.Core.Logic.{_≢_}
-use mathlib.Core.Bool.{Bool, true, false}
+use mathlib.Core.Bool.{Bool, true, false, cond, not, _&&_}
 use mathlib.Core.List.{List, [], _∷_, _++_, append-assoc}
+use lib.Dec.{eqb}
 use lib.ListN.{length, length-append}
 use borrow.Author.Tests.{eq-eqb, ne-eqb}
+use Rattle.cell_steps.specs.declared.cells.Cell.{Cell}
 use Rattle.cell_steps.specs.declared.cells.Class.{Class}
 use Rattle.sew_plan.specs.declared.Kind.{Kind}
 use Rattle.sew_plan.specs.declared.Entry.{Entry}
@@ -18,18 +20,26 @@ use Rattle.sew_ground.specs.declared.items.Item.the-variants.{Nothing, O
 use Rattle.sew_ground.specs.declared.items.Items.{Items}
 use Rattle.sew_ground.specs.Entries.{entryOf, entriesIf, listed, allOf, writtenAll}
 
-module _ (asked : Bool) (k : Class) (kind : Kind) (a b : ℕ) where
+module _ (asked : Bool) (k : Class) (kind : Kind) (a b : Cell) where
   pub none-asked : asked ≡ false → [] ≡ entriesIf asked k kind a b
   unfolding entriesIf
   none-asked e = simp e
 
-  pub none-differs : asked ≡ true → a ≡ b → [] ≡ entriesIf asked k kind a b
+  pub none-differs : asked ≡ true → a .least ≡ b .least → [] ≡ entriesIf asked k kind a b
   unfolding entriesIf
-  none-differs e q = simp (e, eq-eqb a b q)
+  none-differs e q = simp (e, eq-eqb (a .least) (b .least) q)
 
-  pub one-differs : (x : Entry) → asked ≡ true → a ≢ b → x ≡ entryOf k kind a b → x ∷ [] ≡ entriesIf asked k kind a b
+  pub one-differs : (x : Entry) → asked ≡ true → a .least ≢ b .least → x ≡ entryOf k kind a b → x ∷ [] ≡ entriesIf asked k kind a b
   unfolding entriesIf
-  one-differs x e n q = simp (e, ne-eqb a b n, q)
+  one-differs x e n q = simp (e, ne-eqb (a .least) (b .least) n, q)
+
+  pub if-few : length (entriesIf asked k kind a b) ≤ 1
+  unfolding entriesIf
+  if-few = go (asked && not (eqb (a .least) (b .least)))
+    where
+      go : (x : Bool) → length (cond x (entryOf k kind a b ∷ []) []) ≤ 1
+      go true = omega arith
+      go false = omega arith
 
 -- the entries of the three items
 pub all-length : (items : Items) → length (allOf items) ≡ length (listed (items .first)) + length (listed (items .second)) + length (listed (items .third))

@@ -15,10 +15,10 @@ use Rattle.map_betas.specs.Betas.{beta, larger}
 use Rattle.map_betas.specs.Answers.{Out, out, isDone}
 use Rattle.map_betas.specs.Cores.{linkCore, unlinkCore}
 use Rattle.cell_steps.specs.declared.cells.Class.the-variants.{Vertex}
+use Rattle.cell_steps.specs.Idents.{cellOf}
 use Rattle.sew_plan.specs.declared.Kind.{Kind}
 use Rattle.sew_plan.specs.declared.Kind.the-variants.{Merge, Split}
 use Rattle.sew_plan.specs.declared.Entry.{Entry}
-use Rattle.sew_ground.specs.Ids.{vertexId}
 use Rattle.sew_ground.specs.Entries.{entriesIf}
 use Rattle.sew_ground.specs.Sewn.{Work, work, dartOf}
 
@@ -31,7 +31,7 @@ oneFar rows d = larger (beta rows 3 d) (beta rows 2 d)
 
 -- scope: 1-sew. The vertices of ld's far end and of rd, if there is a far end and they are not one already.
 unfoldable pub oneEntries : Kind → List ℕ → ℕ → ℕ → List Entry
-oneEntries kind rows ld rd = entriesIf (not (eqb (oneFar rows ld) 0)) Vertex kind (vertexId rows (oneFar rows ld)) (vertexId rows rd)
+oneEntries kind rows ld rd = entriesIf (not (eqb (oneFar rows ld) 0)) Vertex kind (cellOf Vertex rows (oneFar rows ld)) (cellOf Vertex rows rd)
 
 -- two links are done or neither is: a refusal of the second gives back the rows of the start
 abbrev pub orBack : List ℕ → Out → Out
@@ -69,7 +69,7 @@ afterUnlink rows ld rd o =
 unfoldable pub oneUnlinks : List ℕ → ℕ → Out
 oneUnlinks rows ld = afterUnlink rows ld (beta rows 1 ld) (unlinkCore rows 1 ld)
 
--- scope: 1-unsew. The entry of a 1-sew as a split, with the names as they are without the links.
+-- scope: 1-unsew. The entry of a 1-sew as a split, with names and sizes as they are without the links.
 unfoldable pub oneUnsewOn : List ℕ → ℕ → Work
 oneUnsewOn rows ld =
     work (oneUnlinks rows ld .answer) (oneUnlinks rows ld .rows)

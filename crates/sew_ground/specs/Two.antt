@@ -13,11 +13,11 @@ use Rattle.map_betas.specs.declared.error.Refusal.the-variants.{BadGeometry}
 use Rattle.map_betas.specs.Betas.{beta, larger}
 use Rattle.map_betas.specs.Cores.{linkCore, unlinkCore}
 use Rattle.cell_steps.specs.declared.cells.Class.the-variants.{Vertex, Edge}
+use Rattle.cell_steps.specs.Idents.{cellOf}
 use Rattle.sew_plan.specs.declared.Kind.{Kind}
 use Rattle.sew_plan.specs.declared.Kind.the-variants.{Merge, Split}
 use Rattle.sew_plan.specs.declared.Entry.{Entry}
 use Rattle.sew_points.specs.Geometry.{badGeometry}
-use Rattle.sew_ground.specs.Ids.{vertexId, edgeId}
 use Rattle.sew_ground.specs.declared.sides.Side.{Side}
 use Rattle.sew_ground.specs.Entries.{entriesIf}
 use Rattle.sew_ground.specs.Sewn.{Work, work, dartOf}
@@ -28,7 +28,7 @@ farOf rows d = larger (beta rows 1 d) (beta rows 3 d)
 
 unfoldable pub sideOf : List ℕ → ℕ → Side
 sideOf rows d =
-    record { far = farOf rows d; edge = edgeId rows d; near = vertexId rows d; end = vertexId rows (farOf rows d) }
+    record { far = farOf rows d; edge = cellOf Edge rows d; near = cellOf Vertex rows d; end = cellOf Vertex rows (farOf rows d) }
 
 -- scope: 2-sew. The edges, then the vertices where ld begins and rd ends, then those where ld ends and rd begins.
 unfoldable pub twoEntries : Kind → Side → Side → List Entry
@@ -38,7 +38,7 @@ twoEntries kind l r =
 
 -- scope: 2-sew. The points at both ends of both edges; an edge that points along the other is refused.
 abbrev pub badSides : List ℕ → List Float → Side → Side → Bool
-badSides vertices coordinates l r = badGeometry vertices coordinates (l .near) (r .end) (l .end) (r .near)
+badSides vertices coordinates l r = badGeometry vertices coordinates (l .near .least) (r .end .least) (l .end .least) (r .near .least)
 
 unfoldable pub linkedSides : List ℕ → ℕ → ℕ → Side → Side → Work
 linkedSides rows ld rd l r = work (linkCore rows 2 ld rd .answer) (linkCore rows 2 ld rd .rows) (twoEntries Merge l r)
@@ -48,7 +48,7 @@ twoSewOn vertices coordinates rows ld rd =
     cond (badSides vertices coordinates (sideOf rows ld) (sideOf rows rd)) (work (Refused (BadGeometry 2 ld rd)) rows [])
     (linkedSides rows ld rd (sideOf rows ld) (sideOf rows rd))
 
--- scope: 2-unsew. Unlinked first, so that the names are those of the cells which it leaves.
+-- scope: 2-unsew. Unlinked first, so that names and sizes are those of the cells which it leaves.
 unfoldable pub twoUnsewOn : List ℕ → ℕ → Work
 twoUnsewOn rows ld =
     work (unlinkCore rows 2 ld .answer) (unlinkCore rows 2 ld .rows)

@@ -1,4 +1,5 @@
 // The entries of one pair of darts: at most three, each there or not.
+use cell_steps::cells::Cell;
 use cell_steps::cells::Class;
 use sew_plan::Entry;
 use sew_plan::Kind;
@@ -22,7 +23,7 @@ pub struct Items {
 }
 
 // The merge or the split of two cells.
-fn entry_of(class: Class, kind: Kind, left: u32, right: u32) -> Entry
+fn entry_of(class: Class, kind: Kind, left: Cell, right: Cell) -> Entry
     ensures { λ r. ⌜ r ≡ entryOf class kind left right ⌝ }
 {
     match kind {
@@ -32,13 +33,13 @@ fn entry_of(class: Class, kind: Kind, left: u32, right: u32) -> Entry
 }
 
 // The entry for two cells, where it is asked for and they differ.
-pub fn item_if(asked: bool, class: Class, kind: Kind, left: u32, right: u32) -> Item
+pub fn item_if(asked: bool, class: Class, kind: Kind, left: Cell, right: Cell) -> Item
     ensures { λ r. ⌜ listed r ≡ entriesIf asked class kind left right ⌝ }
 {
     if !asked {
         return Item::Nothing;
     }
-    if left == right {
+    if left.least == right.least {
         return Item::Nothing;
     }
     Item::One(entry_of(class, kind, left, right))

@@ -1,7 +1,8 @@
 // What a sew asks of a dart: the cells at its two ends.
 use crate::items::Items;
 use crate::items::item_if;
-use cell_cores::core::name_core;
+use cell_cores::core::cell_core;
+use cell_steps::cells::Cell;
 use cell_steps::cells::Class;
 use map_betas::betas::beta_at;
 use map_betas::betas::larger_of;
@@ -17,9 +18,9 @@ ghost use Rattle.sew_ground.specs.Two.{sideOf, twoEntries};
 // A dart's far end, its edge, its vertex and the vertex of its far end.
 pub struct Side {
     pub far: u32,
-    pub edge: u32,
-    pub near: u32,
-    pub end: u32,
+    pub edge: Cell,
+    pub near: Cell,
+    pub end: Cell,
 }
 
 // The side of d in a 2-sew: its far end is by beta 1, or by beta 3 where the face is open.
@@ -29,9 +30,9 @@ pub fn side_at(rows: &[u32], marks: &mut [u8], queue: &mut [u32], d: u32) -> Sid
     ensures { λ r. ⌜ (now (marks .exit) ≡ now (marks .entry)) × (now (queue .exit) ≡ now (queue .entry)) ⌝ }
 {
     let far = larger_of(beta_at(rows, 1, d), beta_at(rows, 3, d));
-    let edge = name_core(rows, Class::Edge, marks, queue, d);
-    let near = name_core(rows, Class::Vertex, marks, queue, d);
-    let end = name_core(rows, Class::Vertex, marks, queue, far);
+    let edge = cell_core(rows, Class::Edge, marks, queue, d);
+    let near = cell_core(rows, Class::Vertex, marks, queue, d);
+    let end = cell_core(rows, Class::Vertex, marks, queue, far);
     Side {
         far,
         edge,

@@ -1,5 +1,5 @@
 // The 1-sew and the 1-unsew. Ports dim3/sews/one.rs.
-use cell_cores::core::name_core;
+use cell_cores::core::cell_core;
 use cell_steps::cells::Class;
 use map_betas::betas::beta_at;
 use map_betas::betas::larger_of;
@@ -39,8 +39,8 @@ fn one_items(
     ensures { λ i. ⌜ (now (marks .exit) ≡ now (marks .entry)) × (now (queue .exit) ≡ now (queue .entry)) ⌝ }
 {
     let far = larger_of(beta_at(rows, 3, ld), beta_at(rows, 2, ld));
-    let vl = name_core(rows, Class::Vertex, marks, queue, far);
-    let vr = name_core(rows, Class::Vertex, marks, queue, rd);
+    let vl = cell_core(rows, Class::Vertex, marks, queue, far);
+    let vr = cell_core(rows, Class::Vertex, marks, queue, rd);
     let third = item_if(far != 0, Class::Vertex, kind, vl, vr);
     Items {
         first: Item::Nothing,

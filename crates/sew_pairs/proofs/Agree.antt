@@ -9,7 +9,7 @@ use Rattle.link_walk.specs.Three.{threeUnlinkOn}
 use Rattle.link_glue.specs.Examples.{calls, sayings}
 use Rattle.cell_steps.specs.Steps.{image}
 use Rattle.cell_steps.specs.Search.{mem, add, visit, search, orbit}
-use Rattle.cell_steps.specs.Idents.{leastFrom, least, ident}
+use Rattle.cell_steps.specs.Idents.{leastFrom, least, ident, sizeOf}
 use Rattle.sew_plan.specs.Plan.{splitOf, planOf, putPlan}
 use Rattle.sew_ground.specs.Entries.{entriesIf}
 use Rattle.sew_ground.specs.Sewn.{settled, sewn}
@@ -20,6 +20,6 @@ use Rattle.sew_pairs.specs.Examples.{lines}
 
 pub agree : calls lines ≡ sayings lines
 unfolding lines calls sayings threeUnsew guardOf mapGuard loanTest noDart mapTest firstBreach bound unused freeAt breachAt breaks badSize threeUnlinkOn
-    unlinkCore stepOf walk image mem add visit search orbit leastFrom least ident splitOf planOf putPlan entriesIf settled sewn threeFar pairEntries lefts
-    rights entriesOf legOver pairsFrom endFrom firstPairs firstEnd backPairs pairsOf splitsOf threeEntries threeUnsewOn
+    unlinkCore stepOf walk image mem add visit search orbit leastFrom least ident sizeOf splitOf planOf putPlan entriesIf settled sewn threeFar pairEntries
+    lefts rights entriesOf legOver pairsFrom endFrom firstPairs firstEnd backPairs pairsOf splitsOf threeEntries threeUnsewOn
 agree = refl

@@ -15,6 +15,7 @@ use lib.ListN.{length, length-append}
 use borrow.Author.Tests.{eqb-true}
 use Rattle.map_betas.specs.declared.error.Answer.the-variants.{Done}
 use Rattle.map_betas.specs.Betas.{beta}
+use Rattle.cell_steps.specs.declared.cells.Cell.{Cell}
 use Rattle.cell_steps.specs.declared.cells.Class.the-variants.{Face}
 use Rattle.sew_plan.specs.declared.Entry.{Entry}
 use Rattle.sew_plan.specs.Plan.{splitOf, written, roomOf}
@@ -70,7 +71,7 @@ pairs-same rows plan plan₁ k n ps qs s en p = (
 )
 
 -- the whole plan
-module _ (rows : List ℕ) (ld rd left right : ℕ) where
+module _ (rows : List ℕ) (ld rd : ℕ) (left right : Cell) where
   abbrev ahead : Pairs
   ahead = (ld, rd) ∷ firstPairs rows ld rd
 

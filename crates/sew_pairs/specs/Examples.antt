@@ -1,7 +1,8 @@
 -- The worked examples of the 3-unsew (scope: examples), and the readings that tell its walk apart, as one table; `proofs/Agree.antt` has the
 -- one claim over it. `Line`, `line` and the maps are of the crate `link_glue`.
 --   two-linked, part-linked   maps: 1 and 2 linked by beta 3; 3 before 1, and 2 and 3 linked by beta 3
---   zeros3, zeros4, zeros6, sevens   loans: three, four, six zeros; twelve numbers that are not 0
+--   zeros3, zeros4, zeros6, sevens   loans: three, four, six zeros; six numbers that are not 0
+--   six                       the numbers of an entry
 --   lines                     the table
 use Prim.Native.Nat.{ℕ}
 use mathlib.Core.List.{List, [], _∷_, _++_}
@@ -31,7 +32,10 @@ abbrev pub zeros6 : List ℕ
 zeros6 = zeros3 ++ zeros3
 
 abbrev pub sevens : List ℕ
-sevens = 7 ∷ 7 ∷ 7 ∷ 7 ∷ 7 ∷ 7 ∷ 7 ∷ 7 ∷ 7 ∷ 7 ∷ 7 ∷ 7 ∷ []
+sevens = 7 ∷ 7 ∷ 7 ∷ 7 ∷ 7 ∷ 7 ∷ []
+
+abbrev pub six : ℕ → ℕ → ℕ → ℕ → ℕ → ℕ → List ℕ
+six code a b c m n = code ∷ a ∷ b ∷ c ∷ m ∷ n ∷ []
 
 -- an answer, then rows, marks, queue and plan
 abbrev leaving : Answer → List ℕ → List ℕ → List ℕ → List ℕ → Outcome SewLoans
@@ -43,22 +47,25 @@ unsew rows marks queue plan ld = threeUnsew rows marks queue (inUse rows) plan l
 
 unfoldable pub lines : List (Line (Outcome SewLoans))
 lines =
-    -- 13:1,2,1; 12:1,2,1; 11:0,2,0; 11:1,0,0
-    line (unsew two-linked zeros3 zeros3 (sevens ++ row 7 7 7 7) 1)
-    (leaving (Done 2 4) (free ++ free ++ free) zeros3 zeros3 (row 13 1 2 1 ++ row 12 1 2 1 ++ row 11 0 2 0 ++ row 11 1 0 0))
-    -- room for three of four entries: 11, and the darts stay linked
-    ∷ line (unsew two-linked zeros3 zeros3 sevens 1) (leaving (Refused (PlanRoom 4)) two-linked zeros3 zeros3 sevens)
+    -- 13:1,2,1; 12:1,2,1; 11:0,2,0; 11:1,0,0: a null end has the size 0
+    line (unsew two-linked zeros3 zeros3 (sevens ++ sevens ++ sevens ++ sevens) 1)
+    (leaving (Done 2 4) (free ++ free ++ free) zeros3 zeros3 (six 13 1 2 1 1 1 ++ six 12 1 2 1 1 1 ++ six 11 0 2 0 0 1 ++ six 11 1 0 0 1 0))
+    -- room for three of four entries, and five numbers more: 11, and the darts stay linked
+    ∷ line (unsew two-linked zeros3 zeros3 (sevens ++ sevens ++ sevens ++ (7 ∷ row 7 7 7 7)) 1)
+    (leaving (Refused (PlanRoom 4)) two-linked zeros3 zeros3 (sevens ++ sevens ++ sevens ++ (7 ∷ row 7 7 7 7)))
     -- the least over the walked darts of each side: 13:2,3,2
-    ∷ line (unsew part-linked zeros4 zeros4 (sevens ++ row 7 7 7 7) 2)
-    (leaving (Done 3 4) (free ++ row 3 0 0 0 ++ free ++ row 0 1 0 0) zeros4 zeros4 (row 13 2 3 2 ++ row 12 2 3 2 ++ row 11 0 3 0 ++ row 11 2 1 1))
+    ∷ line (unsew part-linked zeros4 zeros4 (sevens ++ sevens ++ sevens ++ sevens) 2)
+    (leaving (Done 3 4) (free ++ row 3 0 0 0 ++ free ++ row 0 1 0 0) zeros4 zeros4
+    (six 13 2 3 2 1 1 ++ six 12 2 3 2 1 1 ++ six 11 0 3 0 0 1 ++ six 11 2 1 1 1 1))
     -- an open face, from its last dart: the second leg's pair comes last, and marks and queue are longer than n
-    ∷ line (unsew opens-linked (1 ∷ zeros6) (5 ∷ zeros4 ++ sevens) (sevens ++ sevens) 2)
-    (leaving (Done 3 6) opens (0 ∷ zeros6) (zeros6 ++ (7 ∷ 7 ∷ 7 ∷ 7 ∷ 7 ∷ 7 ∷ 7 ∷ 7 ∷ 7 ∷ 7 ∷ 7 ∷ []))
-    (row 13 1 3 1 ++ row 12 2 3 2 ++ row 11 0 3 0 ++ row 12 1 4 1 ++ row 11 2 4 2 ++ row 11 1 5 1))
-    -- a closed face against a longer one: the second leg is not walked
-    ∷ line (unsew loops-linked (zeros4 ++ zeros4) (zeros4 ++ zeros4) (sevens ++ sevens ++ row 7 7 7 7 ++ row 8 8 8 8) 1)
+    ∷ line (unsew opens-linked (1 ∷ zeros6) (5 ∷ zeros4 ++ (8 ∷ sevens)) (sevens ++ sevens ++ sevens ++ sevens ++ sevens ++ sevens) 2)
+    (leaving (Done 3 6) opens (0 ∷ zeros6) (zeros6 ++ sevens)
+    (six 13 1 3 1 2 2 ++ six 12 2 3 2 1 1 ++ six 11 0 3 0 0 1 ++ six 12 1 4 1 1 1 ++ six 11 2 4 2 1 1 ++ six 11 1 5 1 1 1))
+    -- a closed face against a longer one: the second leg is not walked, and the last numbers, too few for an entry, stay
+    ∷ line (unsew loops-linked (zeros4 ++ zeros4) (zeros4 ++ zeros4) (sevens ++ sevens ++ sevens ++ sevens ++ sevens ++ sevens ++ sevens ++ row 8 8 8 8) 1)
     (leaving (Done 4 7) loops (zeros4 ++ zeros4) (zeros4 ++ zeros4)
-    (row 13 1 4 1 ++ row 12 1 4 1 ++ row 11 2 4 2 ++ row 12 2 7 2 ++ row 11 3 7 3 ++ row 12 3 6 3 ++ row 11 1 6 1 ++ row 8 8 8 8))
+    (six 13 1 4 1 3 3 ++ six 12 1 4 1 1 1 ++ six 11 2 4 2 1 1 ++ six 12 2 7 2 1 1 ++ six 11 3 7 3 1 1 ++ six 12 3 6 3 1 1 ++ six 11 1 6 1 1 1
+    ++ row 8 8 8 8))
     -- walks read the rows as written so far
     ∷ line (unsew pair-linked zeros3 zeros3 sevens 1) (leaving (Refused (AsymmetricalFaces 1 2)) pair-linked zeros3 zeros3 sevens)
     ∷ []

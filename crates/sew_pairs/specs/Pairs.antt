@@ -16,9 +16,9 @@ use lib.Dec.{eqb}
 use lib.ListN.{length}
 use Rattle.map_betas.specs.Betas.{beta, larger}
 use Rattle.cell_steps.specs.declared.cells.Class.the-variants.{Vertex, Edge}
+use Rattle.cell_steps.specs.Idents.{cellOf}
 use Rattle.sew_plan.specs.declared.Kind.the-variants.{Split}
 use Rattle.sew_plan.specs.declared.Entry.{Entry}
-use Rattle.sew_ground.specs.Ids.{vertexId, edgeId}
 use Rattle.sew_ground.specs.Entries.{entriesIf}
 
 -- the far end of a dart in a 3-unsew: by beta 1, or by beta 2 where that is the larger (scope: far end)
@@ -26,12 +26,12 @@ unfoldable pub threeFar : List ℕ → ℕ → ℕ
 threeFar rows d = larger (beta rows 1 d) (beta rows 2 d)
 
 -- What one pair adds to the plan (scope: 3-unsew): its edges, the end of l against the start of r, and, where l begins an open chain, the other ends.
--- A far end may be null: its name is 0 then, and the split stands in the plan.
+-- A far end may be null: its name and its size are 0 then, and the split stands in the plan.
 unfoldable pub pairEntries : List ℕ → ℕ → ℕ → List Entry
 pairEntries rows l r =
-    entriesIf true Edge Split (edgeId rows l) (edgeId rows r)
-    ++ (entriesIf true Vertex Split (vertexId rows (threeFar rows l)) (vertexId rows r)
-    ++ entriesIf (eqb (beta rows 0 l) 0) Vertex Split (vertexId rows l) (vertexId rows (threeFar rows r)))
+    entriesIf true Edge Split (cellOf Edge rows l) (cellOf Edge rows r)
+    ++ (entriesIf true Vertex Split (cellOf Vertex rows (threeFar rows l)) (cellOf Vertex rows r)
+    ++ entriesIf (eqb (beta rows 0 l) 0) Vertex Split (cellOf Vertex rows l) (cellOf Vertex rows (threeFar rows r)))
 
 abbrev pub Pairs : Type 0
 Pairs = List (ℕ × ℕ)

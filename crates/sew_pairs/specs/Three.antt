@@ -3,6 +3,7 @@
 --   firstEnd rows ld               the left dart at which it is over: null where the face is open, else ld
 --   backPairs rows ld rd           the pairs of the second leg, which is walked where the face is open
 --   pairsOf rows ld rd             all pairs, in the order of the walk
+--   walked ds                      one side of the face: the least of its darts that are walked, and how many these are
 --   splitsOf rows left right ps    the face split and the splits of the pairs
 --   threeEntries rows ld rd        the entries of the 3-unsew, of the rows after the 3-unlink
 --   threeUnsewOn rows ld           the whole
@@ -10,8 +11,10 @@ use Prim.Native.Nat.{ℕ}
 use mathlib.Core.Bool.{cond}
 use mathlib.Core.List.{List, [], _∷_, _++_}
 use lib.Dec.{eqb}
+use lib.ListN.{length}
 use Rattle.map_betas.specs.Betas.{beta}
 use Rattle.link_walk.specs.Three.{threeUnlinkOn}
+use Rattle.cell_steps.specs.declared.cells.Cell.{Cell}
 use Rattle.cell_steps.specs.declared.cells.Class.the-variants.{Face}
 use Rattle.cell_steps.specs.Idents.{least}
 use Rattle.sew_plan.specs.declared.Entry.{Entry}
@@ -34,12 +37,16 @@ backPairs rows ld rd = cond (eqb (firstEnd rows ld) 0) (legPairs rows 0 1 0 (bet
 unfoldable pub pairsOf : List ℕ → ℕ → ℕ → Pairs
 pairsOf rows ld rd = (ld, rd) ∷ (firstPairs rows ld rd ++ backPairs rows ld rd)
 
-unfoldable pub splitsOf : List ℕ → ℕ → ℕ → Pairs → List Entry
+-- scope: 3-unsew. The darts of a side that are walked, one for each pair.
+abbrev pub walked : List ℕ → Cell
+walked ds = record { least = least ds; count = length ds }
+
+unfoldable pub splitsOf : List ℕ → Cell → Cell → Pairs → List Entry
 splitsOf rows left right ps = splitOf Face left right ∷ entriesOf rows ps
 
--- scope: 3-unsew. The face split of the least darts of both sides, then each pair's splits.
+-- scope: 3-unsew. The face split of both sides, then each pair's splits.
 unfoldable pub threeEntries : List ℕ → ℕ → ℕ → List Entry
-threeEntries rows ld rd = splitsOf rows (least (lefts (pairsOf rows ld rd))) (least (rights (pairsOf rows ld rd))) (pairsOf rows ld rd)
+threeEntries rows ld rd = splitsOf rows (walked (lefts (pairsOf rows ld rd))) (walked (rights (pairsOf rows ld rd))) (pairsOf rows ld rd)
 
 unfoldable pub threeUnsewOn : List ℕ → ℕ → Work
 threeUnsewOn rows ld =

@@ -1,5 +1,5 @@
 // The splits of one pair of darts: at most three.
-use cell_cores::core::name_core;
+use cell_cores::core::cell_core;
 use cell_steps::cells::Class;
 use map_betas::betas::beta_at;
 use map_betas::betas::larger_of;
@@ -13,9 +13,9 @@ ghost use Prim.Native.Nat.{_<_};
 ghost use lib.Dec.{eqb};
 ghost use Rattle.map_betas.specs.Betas.{beta, darts};
 ghost use Rattle.map_betas.specs.Maps.{WellFormed};
-ghost use Rattle.cell_steps.specs.declared.cells.Class.the-variants.{Vertex, Edge};
+ghost use Rattle.cell_steps.specs.declared.cells.Class.the-variants.{Vertex};
 ghost use Rattle.sew_plan.specs.declared.Kind.the-variants.{Split};
-ghost use Rattle.sew_ground.specs.Ids.{vertexId, edgeId};
+ghost use Rattle.cell_steps.specs.Idents.{cellOf};
 ghost use Rattle.cell_steps.specs.Loans.{Clean};
 ghost use Rattle.sew_ground.specs.Entries.{listed, allOf, entriesIf};
 ghost use Rattle.sew_pairs.specs.Pairs.{threeFar, pairEntries};
@@ -28,40 +28,36 @@ fn far_of(rows: &[u32], d: u32) -> u32
     larger_of(beta_at(rows, 1, d), beta_at(rows, 2, d))
 }
 
-// The split of the edges of two darts, if they differ.
-fn edge_item(rows: &[u32], marks: &mut [u8], queue: &mut [u32], l: u32, r: u32) -> Item
+// The split of the cells of two darts of a class, if they differ.
+fn split_item(
+    rows: &[u32],
+    class: Class,
+    marks: &mut [u8],
+    queue: &mut [u32],
+    l: u32,
+    r: u32,
+) -> Item
     requires { ⌜ WellFormed (now rows) × (l < darts (now rows)) × (r < darts (now rows)) × Clean (darts (now rows)) (now marks) (now queue) ⌝ }
-    ensures { λ i. ⌜ listed i ≡ entriesIf true Edge Split (edgeId (now (rows .entry)) l) (edgeId (now (rows .entry)) r) ⌝ }
+    ensures { λ i. ⌜ listed i ≡ entriesIf true class Split (cellOf class (now (rows .entry)) l) (cellOf class (now (rows .entry)) r) ⌝ }
     ensures { λ i. ⌜ (now (marks .exit) ≡ now (marks .entry)) × (now (queue .exit) ≡ now (queue .entry)) ⌝ }
 {
-    let left = name_core(rows, Class::Edge, marks, queue, l);
-    let right = name_core(rows, Class::Edge, marks, queue, r);
-    item_if(true, Class::Edge, Kind::Split, left, right)
-}
-
-// The split of the vertices of two darts, if they differ.
-fn vertex_item(rows: &[u32], marks: &mut [u8], queue: &mut [u32], l: u32, r: u32) -> Item
-    requires { ⌜ WellFormed (now rows) × (l < darts (now rows)) × (r < darts (now rows)) × Clean (darts (now rows)) (now marks) (now queue) ⌝ }
-    ensures { λ i. ⌜ listed i ≡ entriesIf true Vertex Split (vertexId (now (rows .entry)) l) (vertexId (now (rows .entry)) r) ⌝ }
-    ensures { λ i. ⌜ (now (marks .exit) ≡ now (marks .entry)) × (now (queue .exit) ≡ now (queue .entry)) ⌝ }
-{
-    let left = name_core(rows, Class::Vertex, marks, queue, l);
-    let right = name_core(rows, Class::Vertex, marks, queue, r);
-    item_if(true, Class::Vertex, Kind::Split, left, right)
+    let left = cell_core(rows, class, marks, queue, l);
+    let right = cell_core(rows, class, marks, queue, r);
+    item_if(true, class, Kind::Split, left, right)
 }
 
 // The split at the near end of l, where nothing stands before it.
 fn open_item(rows: &[u32], marks: &mut [u8], queue: &mut [u32], l: u32, r: u32) -> Item
     requires { ⌜ WellFormed (now rows) × (l < darts (now rows)) × (r < darts (now rows)) × Clean (darts (now rows)) (now marks) (now queue) ⌝ }
-    ensures { λ i. ⌜ listed i ≡ entriesIf (eqb (beta (now (rows .entry)) 0 l) 0) Vertex Split (vertexId (now (rows .entry)) l)
-        (vertexId (now (rows .entry)) (threeFar (now (rows .entry)) r)) ⌝ }
+    ensures { λ i. ⌜ listed i ≡ entriesIf (eqb (beta (now (rows .entry)) 0 l) 0) Vertex Split (cellOf Vertex (now (rows .entry)) l)
+        (cellOf Vertex (now (rows .entry)) (threeFar (now (rows .entry)) r)) ⌝ }
     ensures { λ i. ⌜ (now (marks .exit) ≡ now (marks .entry)) × (now (queue .exit) ≡ now (queue .entry)) ⌝ }
 {
     if beta_at(rows, 0, l) != 0 {
         return Item::Nothing;
     }
     let far = far_of(rows, r);
-    vertex_item(rows, marks, queue, l, far)
+    split_item(rows, Class::Vertex, marks, queue, l, far)
 }
 
 // The splits of one pair of darts.
@@ -70,9 +66,9 @@ pub fn pair_items(rows: &[u32], marks: &mut [u8], queue: &mut [u32], l: u32, r: 
     ensures { λ i. ⌜ allOf i ≡ pairEntries (now (rows .entry)) l r ⌝ }
     ensures { λ i. ⌜ (now (marks .exit) ≡ now (marks .entry)) × (now (queue .exit) ≡ now (queue .entry)) ⌝ }
 {
-    let first = edge_item(rows, marks, queue, l, r);
+    let first = split_item(rows, Class::Edge, marks, queue, l, r);
     let far = far_of(rows, l);
-    let second = vertex_item(rows, marks, queue, far, r);
+    let second = split_item(rows, Class::Vertex, marks, queue, far, r);
     let third = open_item(rows, marks, queue, l, r);
     Items {
         first,

@@ -1,6 +1,7 @@
 -- Laws of plans, for callers that write entries one behind another. Assumes nothing.
 --
---   entry-stored    the four stores of one entry give `written`
+--   lesser-min      the lesser of two identifiers is their minimum
+--   entry-stored    the six stores of one entry give `written`
 --   length-planOf   a list of entries takes `width` numbers for each
 --   planOf-append   the numbers of two lists of entries, one behind another
 --   put-none        a plan into which nothing was written is itself
@@ -8,29 +9,47 @@
 --   put-front       the written part of a plan
 --   put-rest        the rest of a plan is unchanged
 --   length-written  writing an entry for which there is room keeps the length
-use Prim.Native.Nat.{ℕ, suc, _+_, _*_, _≤_}
+use Prim.Native.Nat.{ℕ, suc, _+_, _*_, _≤_, min}
+use native.Mathlib.Nat.{le-of-lt, min-eq-left, min-eq-right}
 use mathlib.Core.Path.{_≡_, refl, sym, ap, _∙_}
 use mathlib.Core.List.{List, [], _∷_, _++_, append-assoc}
 use native.Mathlib.Omega.{arith}
+use mathlib.Core.Logic.{⊎-elim}
+use mathlib.Core.Bool.{true, false}
+use lib.Dec.{leb}
 use lib.ListN.{length, take, drop, set, length-append, length-take, length-drop}
+use borrow.Author.Tests.{leb-true, leb-false}
 use lib.Seq.{sets-eq, take-at, drop-at, drop-drop}
+use Rattle.cell_steps.proofs.Lists.{bool}
 use Rattle.sew_plan.specs.declared.Entry.{Entry}
-use Rattle.sew_plan.specs.Plan.{width, codeOf, entryWords, written, planOf, putPlan}
+use Rattle.sew_plan.specs.Plan.{width, codeOf, entryWords, lesserOf, written, planOf, putPlan}
+
+pub lesser-min : (x y : ℕ) → lesserOf x y ≡ min x y
+lesser-min x y =
+    ⊎-elim
+    (λ (t : leb x y ≡ true). simp t (sym (min-eq-left (leb-true x y t))))
+    (λ (t : leb x y ≡ false). simp t (sym (min-eq-right (le-of-lt (leb-false x y t)))))
+    (bool (leb x y))
 
 -- ---- one entry
 
-four-stores : (plan : List ℕ) (p a b c d : ℕ) → p + 4 ≤ length plan
-    → set (set (set (set plan p a) (p + 1) b) (p + 2) c) (p + 3) d ≡ take p plan ++ ((a ∷ b ∷ c ∷ d ∷ []) ++ drop (p + 4) plan)
-four-stores plan p a b c d h =
+six-stores : (plan : List ℕ) (p a b c d m n : ℕ) → p + 6 ≤ length plan
+    → set (set (set (set (set (set plan p a) (p + 1) b) (p + 2) c) (p + 3) d) (p + 4) m) (p + 5) n
+    ≡ take p plan ++ ((a ∷ b ∷ c ∷ d ∷ m ∷ n ∷ []) ++ drop (p + 6) plan)
+six-stores plan p a b c d m n h =
+    let words : List ℕ = a ∷ b ∷ c ∷ d ∷ m ∷ n ∷ [] in
     let e1 : p + 1 ≡ suc p = omega arith in
     let e2 : p + 2 ≡ suc (suc p) = omega arith in
     let e3 : p + 3 ≡ suc (suc (suc p)) = omega arith in
-    rw (e1, e2, e3) (sets-eq (a ∷ b ∷ c ∷ d ∷ []) plan p h ∙ append-assoc (take p plan) (a ∷ b ∷ c ∷ d ∷ []) (drop (p + 4) plan))
+    let e4 : p + 4 ≡ suc (suc (suc (suc p))) = omega arith in
+    let e5 : p + 5 ≡ suc (suc (suc (suc (suc p)))) = omega arith in
+    rw (e1, e2, e3, e4, e5) (sets-eq words plan p h ∙ append-assoc (take p plan) words (drop (p + 6) plan))
 
 pub entry-stored : (plan : List ℕ) (k : ℕ) (e : Entry) (n : ℕ) → n ≡ codeOf (e .class) (e .kind) → width * k + width ≤ length plan
-    → set (set (set (set plan (width * k) n) (width * k + 1) (e .a)) (width * k + 2) (e .b)) (width * k + 3) (e .c) ≡ written plan k e
+    → set (set (set (set (set (set plan (width * k) n) (width * k + 1) (e .a)) (width * k + 2) (e .b)) (width * k + 3) (e .c)) (width * k + 4) (e .left))
+    (width * k + 5) (e .right) ≡ written plan k e
 unfolding written
-entry-stored plan k e n en h = four-stores plan (width * k) n (e .a) (e .b) (e .c) h ∙ rw en
+entry-stored plan k e n en h = six-stores plan (width * k) n (e .a) (e .b) (e .c) (e .left) (e .right) h ∙ rw en
 
 -- ---- lists of entries
 

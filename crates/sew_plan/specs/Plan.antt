@@ -15,6 +15,7 @@ use mathlib.Core.Bool.{cond}
 use mathlib.Core.List.{List, [], _∷_, _++_}
 use lib.Dec.{leb}
 use lib.ListN.{length, take, drop}
+use Rattle.cell_steps.specs.declared.cells.Cell.{Cell}
 use Rattle.cell_steps.specs.declared.cells.Class.{Class}
 use Rattle.cell_steps.specs.declared.cells.Class.the-variants.{Vertex, Edge, Face, Volume}
 use Rattle.sew_plan.specs.declared.Kind.{Kind}
@@ -23,7 +24,7 @@ use Rattle.sew_plan.specs.declared.Entry.{Entry}
 
 -- the numbers of one entry (scope: plan)
 abbrev pub width : ℕ
-width = 4
+width = 6
 
 -- class and kind as one number: units say the class, and a split has ten more.
 -- No sew merges faces or has an entry for volumes; 3, 4 and 14 are the numbers that the others leave for these.
@@ -37,21 +38,39 @@ codeOf Face Split = 13
 codeOf Volume Merge = 4
 codeOf Volume Split = 14
 
--- an entry as it stands in the plan: its code, then its three identifiers
+-- an entry as it stands in the plan: its code, its three identifiers, and the sizes of its left and its right cell
 abbrev pub entryWords : Entry → List ℕ
-entryWords e = codeOf (e .class) (e .kind) ∷ e .a ∷ e .b ∷ e .c ∷ []
+entryWords e = codeOf (e .class) (e .kind) ∷ e .a ∷ e .b ∷ e .c ∷ e .left ∷ e .right ∷ []
 
 -- the identifier that stays where two become one, and the one that two come from
 abbrev pub lesserOf : ℕ → ℕ → ℕ
 lesserOf left right = cond (leb left right) left right
 
--- a merge says first what stays, then what comes in from either side
-unfoldable pub mergeOf : Class → ℕ → ℕ → Entry
-mergeOf cells left right = record { class = cells; kind = Merge; a = lesserOf left right; b = left; c = right }
+-- a merge says first what stays, then what comes in from either side, and how many darts each side has
+unfoldable pub mergeOf : Class → Cell → Cell → Entry
+mergeOf cells left right =
+    record {
+      class = cells;
+      kind = Merge;
+      a = lesserOf (left .least) (right .least);
+      b = left .least;
+      c = right .least;
+      left = left .count;
+      right = right .count;
+    }
 
--- a split says first what goes out on either side, then where it came from
-unfoldable pub splitOf : Class → ℕ → ℕ → Entry
-splitOf cells left right = record { class = cells; kind = Split; a = left; b = right; c = lesserOf left right }
+-- a split says first what goes out on either side, then where it came from, and how many darts each side has
+unfoldable pub splitOf : Class → Cell → Cell → Entry
+splitOf cells left right =
+    record {
+      class = cells;
+      kind = Split;
+      a = left .least;
+      b = right .least;
+      c = lesserOf (left .least) (right .least);
+      left = left .count;
+      right = right .count;
+    }
 
 -- entry number k takes the places from width * k on, and no other place changes
 unfoldable pub written : List ℕ → ℕ → Entry → List ℕ

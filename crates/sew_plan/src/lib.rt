@@ -1,12 +1,13 @@
 // The plan of a sew: entries that say which cells merge or split, written as whole groups of u32 numbers.
+use cell_steps::cells::Cell;
 use cell_steps::cells::Class;
 ghost use mathlib.Core.Path.{_≡_};
 ghost use Prim.Native.Nat.{_+_, _*_, _≤_};
 ghost use lib.ListN.{length};
 ghost use Rattle.sew_plan.specs.Plan.{width, codeOf, lesserOf, mergeOf, splitOf, written, roomOf};
 
-// The numbers that one entry takes: its code and three identifiers.
-pub const WIDTH: usize = 4;
+// The numbers that one entry takes: its code, three identifiers and two sizes.
+pub const WIDTH: usize = 6;
 
 // What becomes of them.
 pub enum Kind {
@@ -15,13 +16,15 @@ pub enum Kind {
 }
 
 // An entry: the class of the cells that it is about, and what becomes of them. A merge has a: out, b: left in, c: right in; a split has a: left out, b: right
-// out, c: in.
+// out, c: in. Left and right say how many darts the left and the right cell have: those that come in, or those that go out.
 pub struct Entry {
     pub class: Class,
     pub kind: Kind,
     pub a: u32,
     pub b: u32,
     pub c: u32,
+    pub left: u32,
+    pub right: u32,
 }
 
 // The lesser of two identifiers.
@@ -32,30 +35,34 @@ pub fn lesser(left: u32, right: u32) -> u32
 }
 
 // The merge of two cells into the one that keeps the lesser identifier.
-pub fn merge(class: Class, left: u32, right: u32) -> Entry
+pub fn merge(class: Class, left: Cell, right: Cell) -> Entry
     ensures { λ r. ⌜ r ≡ mergeOf class left right ⌝ }
 {
-    let out = lesser(left, right);
+    let out = lesser(left.least, right.least);
     Entry {
         class,
         kind: Kind::Merge,
         a: out,
-        b: left,
-        c: right,
+        b: left.least,
+        c: right.least,
+        left: left.count,
+        right: right.count,
     }
 }
 
 // The split of the cell with the lesser identifier into two.
-pub fn split(class: Class, left: u32, right: u32) -> Entry
+pub fn split(class: Class, left: Cell, right: Cell) -> Entry
     ensures { λ r. ⌜ r ≡ splitOf class left right ⌝ }
 {
-    let from = lesser(left, right);
+    let from = lesser(left.least, right.least);
     Entry {
         class,
         kind: Kind::Split,
-        a: left,
-        b: right,
+        a: left.least,
+        b: right.least,
         c: from,
+        left: left.count,
+        right: right.count,
     }
 }
 
@@ -102,4 +109,6 @@ pub fn write_entry(plan: &mut [u32], at: usize, e: Entry)
     plan[p + 1] = e.a;
     plan[p + 2] = e.b;
     plan[p + 3] = e.c;
+    plan[p + 4] = e.left;
+    plan[p + 5] = e.right;
 }

@@ -1,4 +1,5 @@
 // The plan of a 3-unsew, with the room that there is: its splits are written, or refused.
+use cell_steps::cells::Cell;
 use map_betas::error::Answer;
 use map_betas::error::Refusal;
 use sew_splits::splits::write_splits;
@@ -23,7 +24,7 @@ fn wanted(
     rd: u32,
 ) -> usize
     requires { ⌜ WellFormed (now rows) × (ld < darts (now rows)) × (rd < darts (now rows)) × Clean (darts (now rows)) (now marks) (now queue)
-        × (length (threeEntries (now rows) ld rd) ≤ most) ⌝ }
+        × (length (threeEntries (now rows) ld rd) ≤ most) × (most ≤ 100000000) ⌝ }
     ensures { λ k. ⌜ (length (threeEntries (now (rows .entry)) ld rd) ≤ k) × (room < k → k ≡ length (threeEntries (now (rows .entry)) ld rd)) ⌝ }
     ensures { λ k. ⌜ (now (marks .exit) ≡ now (marks .entry)) × (now (queue .exit) ≡ now (queue .entry)) ⌝ }
 {
@@ -31,10 +32,11 @@ fn wanted(
         return most;
     }
     let t = tally_pairs(rows, marks, queue, true, ld, rd);
-    t.count
+    1 + t.count
 }
 
-// Writes the plan of a 3-unsew from its start and answers rd with the count; or refuses, and leaves the plan as it was.
+// Writes the plan of a 3-unsew from its start and answers rd with the count; or refuses, and leaves the plan as it was. A pair has at most three splits, and
+// the face split says of each side how many pairs were walked.
 pub fn settle_splits(
     rows: &[u32],
     marks: &mut [u8],
@@ -49,10 +51,19 @@ pub fn settle_splits(
 {
     let t = tally_pairs(rows, marks, queue, false, ld, rd);
     let room = sew_plan::room(plan);
-    let k = wanted(rows, marks, queue, room, t.count, ld, rd);
+    let k = wanted(rows, marks, queue, room, 1 + 3 * t.count, ld, rd);
     if room < k {
         return Answer::Refused(Refusal::PlanRoom(k));
     }
-    let n = write_splits(rows, marks, queue, plan, t.l == 0, t.left, t.right, ld, rd);
+    let count = t.count as u32;
+    let left = Cell {
+        least: t.left,
+        count,
+    };
+    let right = Cell {
+        least: t.right,
+        count,
+    };
+    let n = write_splits(rows, marks, queue, plan, t.l == 0, left, right, ld, rd);
     Answer::Done(rd, n)
 }

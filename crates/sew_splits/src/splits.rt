@@ -1,4 +1,5 @@
 // The plan of a 3-unsew: the face split, then the splits of each pair in the order of the walk.
+use cell_steps::cells::Cell;
 use cell_steps::cells::Class;
 use map_betas::betas::beta_at;
 use sew_ground::items::put_items;
@@ -126,8 +127,8 @@ pub fn write_splits(
     queue: &mut [u32],
     plan: &mut [u32],
     opened: bool,
-    left: u32,
-    right: u32,
+    left: Cell,
+    right: Cell,
     ld: u32,
     rd: u32,
 ) -> usize

@@ -58,7 +58,14 @@ pub fn two_sew_on(
 {
     let l = side_at(rows, marks, queue, ld);
     let r = side_at(rows, marks, queue, rd);
-    if bad_geometry(vertices, coordinates, l.near, r.end, l.end, r.near) {
+    if bad_geometry(
+        vertices,
+        coordinates,
+        l.near.least,
+        r.end.least,
+        l.end.least,
+        r.near.least,
+    ) {
         return Answer::Refused(Refusal::BadGeometry(2, ld, rd));
     }
     link_sides(rows, plan, ld, rd, l, r)

@@ -11,7 +11,7 @@ use Rattle.link_walk.specs.Calls.{threeLink, threeUnlink}
 use Rattle.link_glue.specs.Examples.{calls, sayings, lines as linkLines}
 use Rattle.cell_steps.specs.Steps.{image}
 use Rattle.cell_steps.specs.Search.{mem, add, visit, search, orbit}
-use Rattle.cell_steps.specs.Idents.{leastFrom, least, ident}
+use Rattle.cell_steps.specs.Idents.{leastFrom, least, ident, sizeOf}
 use Rattle.cell_faces.specs.Faces.{fresh, insert, lower, turn, leg, forward, backward, faceWalk, faceId}
 use Rattle.cell_names.specs.Calls.{idCall}
 use Rattle.sew_points.specs.Geometry.{slotAt, slotsRefuse, badGeometry}
@@ -26,12 +26,12 @@ use Rattle.sew_pairs.specs.Three.{firstPairs, firstEnd, backPairs, pairsOf, spl
 use Rattle.sew_pairs.specs.Calls.{threeUnsew}
 use Rattle.sew_pairs.specs.Examples.{lines as unsewLines}
 use Rattle.test_examples.specs.Sews.{lines as sewLines}
-use Rattle.test_examples.specs.Table.{seen, faceLines, table}
+use Rattle.test_examples.specs.Table.{seen, faceLines, cellLines, table}
 
 pub agree : calls table ≡ sayings table
-unfolding table seen faceLines linkLines sewLines unsewLines calls sayings threeLink threeUnlink threeUnsew idCall guardOf mapGuard loanTest noDart mapTest
-    firstBreach bound unused freeAt breachAt breaks badSize threeLinkOn threeUnlinkOn linkCore unlinkCore stepOf walk image mem add visit search orbit
-    leastFrom least ident fresh insert lower turn leg forward backward faceWalk faceId splitOf planOf putPlan entriesIf settled sewn threeFar pairEntries
+unfolding table seen faceLines cellLines linkLines sewLines unsewLines calls sayings threeLink threeUnlink threeUnsew idCall guardOf mapGuard loanTest noDart
+    mapTest firstBreach bound unused freeAt breachAt breaks badSize threeLinkOn threeUnlinkOn linkCore unlinkCore stepOf walk image mem add visit search orbit
+    leastFrom least ident sizeOf fresh insert lower turn leg forward backward faceWalk faceId splitOf planOf putPlan entriesIf settled sewn threeFar pairEntries
     lefts rights entriesOf legOver pairsFrom endFrom firstPairs firstEnd backPairs pairsOf splitsOf threeEntries threeUnsewOn mergeOf oneSew oneUnsew twoSew
     twoUnsew bothThree oneEntries oneLinks oneSewOn secondCut agrees oneUnlinks oneUnsewOn sideOf twoEntries linkedSides twoSewOn twoUnsewOn slotAt
     slotsRefuse badGeometry plus sub mul le

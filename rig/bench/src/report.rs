@@ -346,7 +346,7 @@ pub fn report(times: &Times, inputs: &Inputs, machine: &Machine) -> String {
     r.say("The same grids as images of form 1, with a point at the dart that names each vertex, and with one in every slot. Reader and writer each contain one map test, and refuse before they write anything; a plain copy of as many bytes stands beside them. Neither peer has such images.\n");
     r.say(images::table(times, &inputs.grids).trim_end());
     r.say("\n## Lists of commands\n");
-    r.say("One call makes thousands of joins under one map test and one clearing of scratch, which every time of ours below contains. The published Rust makes the same commands as single calls, without a map test; what it asks of its stores is written down as our plan is. Every command is done, and rows and plans are the same on all sides. CGAL's times are its `is_sewable<3>` and `sew<3>` together.\n");
+    r.say("One call makes thousands of joins under one map test and one clearing of scratch, which every time of ours below contains. The published Rust makes the same commands as single calls, without a map test; what it asks of its stores is written down as our plan is. Every command is done, and rows and plans are the same on all sides, but for the sizes of cells, which the Rust does not say. CGAL's times are its `is_sewable<3>` and `sew<3>` together.\n");
     r.say(lists::tables(times, &inputs.grids).trim_end());
     r.say("\n## Edge names\n");
     r.say(edges::tables(times, &inputs.grids).trim_end());

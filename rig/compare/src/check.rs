@@ -4,7 +4,7 @@ use std::collections::BTreeMap;
 use std::fmt::Write;
 use std::panic::{AssertUnwindSafe, catch_unwind};
 
-use crate::kernel::{Answer, Call, Kernel, Loans, NAMES};
+use crate::kernel::{Answer, Call, ENTRY_NUMBERS, Kernel, Loans, NAMES};
 use crate::kernels::Model;
 
 /// A difference, with the input that shows it.
@@ -123,10 +123,10 @@ impl Comparison {
         if call.plans() && answer.0 == 0 && answer.1[1] > 0 {
             let entries = answer.1[1] as usize;
             tight.clone_from(before);
-            tight.plan.truncate(4 * entries - 1);
+            tight.plan.truncate(ENTRY_NUMBERS * entries - 1);
             self.check(call, tight);
             tight.plan.clone_from(&before.plan);
-            tight.plan.truncate(4 * entries);
+            tight.plan.truncate(ENTRY_NUMBERS * entries);
             self.check(call, tight);
         }
         answer

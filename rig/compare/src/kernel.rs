@@ -1,6 +1,6 @@
 //! What is compared: calls on loans, and whoever answers them.
 
-pub use model::{Answer, Cell};
+pub use model::{Answer, Cell, ENTRY_NUMBERS};
 
 /// The orbits by class; Custom carries its list.
 #[derive(Debug, Clone, PartialEq, Eq)]
@@ -291,7 +291,7 @@ impl Loans {
             flags,
             vertex_marks: vec![0; n + 1],
             coordinates: vec![-7.25; 3 * n + 1],
-            plan: vec![0xC0DE_0000; 4 * (3 * n + 1) + 3],
+            plan: vec![0xC0DE_0000; ENTRY_NUMBERS * (3 * n + 1) + 5],
             commands: Vec::new(),
             bytes: Vec::new(),
         }

@@ -11,6 +11,6 @@ mod random;
 pub mod runs;
 
 pub use check::{Comparison, Count, Finding};
-pub use kernel::{Answer, Call, Cell, Kernel, Loans, Orbit};
+pub use kernel::{Answer, Call, Cell, ENTRY_NUMBERS, Kernel, Loans, Orbit};
 pub use kernels::{Library, Model, Published};
 pub use random::Random;

@@ -1,12 +1,14 @@
 //! A comparison is worth what it notices: kernels with one fault each, all of which must be found, and
 //! one without a fault, of which nothing may be found.
 
-use compare::{Answer, Call, Cell, Comparison, Kernel, Loans, Model, Orbit, runs};
+use compare::{Answer, Call, Cell, Comparison, ENTRY_NUMBERS, Kernel, Loans, Model, Orbit, runs};
 
 #[path = "notices/commands.rs"]
 mod commands;
 #[path = "notices/flags.rs"]
 mod flags;
+#[path = "notices/sizes.rs"]
+mod sizes;
 #[path = "notices/writer.rs"]
 mod writer;
 
@@ -151,8 +153,8 @@ fn a_closed_three_link_that_asks_for_rd_at_its_end() {
 fn plan_entries_in_another_order() {
     found(|call, _, loans, answer| {
         if matches!(call, Call::ThreeUnsew { .. }) && answer.0 == 0 && answer.1[1] > 2 {
-            let (left, right) = loans.plan.split_at_mut(8);
-            left[4..].swap_with_slice(&mut right[..4]);
+            let (left, right) = loans.plan.split_at_mut(2 * ENTRY_NUMBERS);
+            left[ENTRY_NUMBERS..].swap_with_slice(&mut right[..ENTRY_NUMBERS]);
         }
         answer
     });
@@ -161,7 +163,8 @@ fn plan_entries_in_another_order() {
 #[test]
 fn plan_room_one_entry_too_early() {
     found(|call, before, loans, answer| {
-        if call.plans() && answer.0 == 0 && answer.1[1] > 0 && before.plan.len() / 4 == answer.1[1] as usize {
+        let room = before.plan.len() / ENTRY_NUMBERS;
+        if call.plans() && answer.0 == 0 && answer.1[1] > 0 && room == answer.1[1] as usize {
             loans.rows.clone_from(&before.rows);
             loans.plan.clone_from(&before.plan);
             return (11, [answer.1[1], 0, 0]);
@@ -174,7 +177,7 @@ fn plan_room_one_entry_too_early() {
 fn plan_remainder_touched() {
     found(|call, _, loans, answer| {
         if matches!(call, Call::OneUnsew { .. }) && answer.0 == 11 {
-            let whole = loans.plan.len() / 4 * 4;
+            let whole = loans.plan.len() / ENTRY_NUMBERS * ENTRY_NUMBERS;
             loans.plan[whole..].fill(0);
         }
         answer

@@ -4,7 +4,7 @@
 use std::cell::RefCell;
 use std::collections::BTreeMap;
 
-use compare::{Answer, Call, Cell, Kernel, Loans, Model, Orbit, Published, maps};
+use compare::{Answer, Call, Cell, ENTRY_NUMBERS, Kernel, Loans, Model, Orbit, Published, maps};
 
 thread_local! {
     static PUBLISHED: RefCell<Published> = RefCell::new(Published::default());
@@ -180,13 +180,104 @@ fn sew_then_unsew_gives_back_rows_and_entries() {
                         let (back, undone) = run(unsew, &sewn.rows);
                         assert_eq!(back, (0, [u64::from(rd), answer.1[1], 0]));
                         assert_eq!(undone.rows, rows);
-                        let entries = answer.1[1] as usize;
-                        for (merge, split) in sewn.plan.chunks_exact(4).zip(undone.plan.chunks_exact(4)).take(entries) {
-                            assert_eq!([merge[0] + 10, merge[2], merge[3], merge[1]], split, "on {rows:?}");
+                        let written = ENTRY_NUMBERS * answer.1[1] as usize;
+                        let [merges, splits] =
+                            [&sewn, &undone].map(|loans| loans.plan[..written].chunks_exact(ENTRY_NUMBERS));
+                        for (merge, split) in merges.zip(splits) {
+                            let turned = [merge[0] + 10, merge[2], merge[3], merge[1], merge[4], merge[5]];
+                            assert_eq!(turned, split, "on {rows:?}");
                         }
                     }
                 }
             }
         });
     }
+}
+
+/// The darts of a cell, ascending.
+fn darts(orbit: Orbit, rows: &[u32], d: u32) -> Vec<u32> {
+    let mut loans = Loans::around(rows.to_vec());
+    let (_, [_, count, _]) = Model.run(&Call::Orbit { orbit, d }, &mut loans);
+    loans.output.truncate(count as usize);
+    loans.output.sort_unstable();
+    loans.output
+}
+
+/// The merges of a sew on these rows, if it is done, and the rows that it leaves.
+fn merges(call: Call, rows: &[u32]) -> Option<(Vec<[u32; ENTRY_NUMBERS]>, Vec<u32>)> {
+    let (answer, after) = run(call, rows);
+    let written = &after.plan[..ENTRY_NUMBERS * answer.1[1] as usize];
+    let entries = written.chunks_exact(ENTRY_NUMBERS).map(|entry| entry.try_into().expect("six")).collect();
+    (answer.0 == 0).then_some((entries, after.rows))
+}
+
+/// Whether what is left of a merge's two cells has exactly the darts of these cells, is named by the one that it says
+/// stays, and has as many darts as both together.
+fn adds_up(orbit: &Orbit, merge: &[u32; ENTRY_NUMBERS], before: &[u32], after: &[u32]) -> bool {
+    let [_, out, left, right, left_size, right_size] = *merge;
+    let mut both = [left, right].map(|d| darts(orbit.clone(), before, d)).concat();
+    both.sort_unstable();
+    let whole = darts(orbit.clone(), after, left);
+    whole == both && whole[0] == out && whole.len() as u32 == left_size + right_size
+}
+
+/// Of the cells that these merges name, each once, one is left with the darts of all.
+fn one_of_all(orbit: &Orbit, merges: &[[u32; ENTRY_NUMBERS]], before: &[u32], after: &[u32]) -> bool {
+    let mut named: Vec<u32> = merges.iter().flat_map(|merge| [merge[2], merge[3]]).collect();
+    named.sort_unstable();
+    named.dedup();
+    let mut all: Vec<u32> = named.iter().flat_map(|&d| darts(orbit.clone(), before, d)).collect();
+    all.sort_unstable();
+    named.iter().all(|&d| darts(orbit.clone(), after, d) == all)
+}
+
+/// Every two real darts of every map of up to four of them.
+fn every_pair(mut each: impl FnMut(&[u32], u32, u32)) {
+    for k in 1..=4 {
+        maps::all_of(k, |rows| {
+            (1..=k as u32).for_each(|ld| (1..=k as u32).for_each(|rd| each(rows, ld, rd)));
+        });
+    }
+}
+
+/// The sizes of a 1-sew's vertex merge and of a 2-sew's edge merge add up (scope: sums).
+#[test]
+fn sizes_that_add_up() {
+    let (mut vertices, mut edges) = (0, 0);
+    every_pair(|rows, ld, rd| {
+        if let Some((entries, after)) = merges(Call::OneSew { ld, rd }, rows) {
+            assert!(entries.iter().all(|merge| adds_up(&Orbit::Vertex, merge, rows, &after)), "{rows:?}");
+            vertices += entries.len();
+        }
+        if let Some((mut entries, after)) = merges(Call::TwoSew { ld, rd }, rows) {
+            entries.retain(|merge| merge[0] == 2);
+            assert!(entries.iter().all(|merge| adds_up(&Orbit::Edge, merge, rows, &after)), "{rows:?}");
+            edges += entries.len();
+        }
+    });
+    assert!(vertices > 1000 && edges > 1000);
+}
+
+/// Those of a 2-sew's vertex merges do where these name no cell in common; where they do, one vertex is left of all
+/// that they name, and then there are sums that are too small, and names that are not the vertex's.
+#[test]
+fn sizes_that_need_not_add_up() {
+    let (mut apart, mut short, mut renamed) = (0, 0, 0);
+    every_pair(|rows, ld, rd| {
+        let Some((mut entries, after)) = merges(Call::TwoSew { ld, rd }, rows) else { return };
+        entries.retain(|merge| merge[0] == 1);
+        let sums = entries.iter().filter(|merge| adds_up(&Orbit::Vertex, merge, rows, &after)).count();
+        if let [first, second] = &entries[..]
+            && first[2..4].iter().any(|d| second[2..4].contains(d))
+        {
+            assert!(one_of_all(&Orbit::Vertex, &entries, rows, &after), "{rows:?}");
+            let vertex = darts(Orbit::Vertex, &after, first[2]);
+            short += entries.iter().filter(|merge| merge[4] + merge[5] < vertex.len() as u32).count();
+            renamed += entries.iter().filter(|merge| merge[1] != vertex[0]).count();
+        } else {
+            assert_eq!(sums, entries.len(), "{rows:?}");
+            apart += sums;
+        }
+    });
+    assert!(apart > 1000 && short > 1000 && renamed > 1000);
 }

@@ -6,12 +6,12 @@ use std::fmt;
 #[must_use = "a call that is not looked at may have been refused"]
 #[derive(Debug, Clone, Copy, PartialEq, Eq, Hash)]
 pub enum Answer {
-    /// Done, with the dart or yes/no answered (0 where none) and the count written (0 where none).
+    /// Done, with the dart or yes/no answered (0 where none) and a count (0 where none).
     Done {
         /// The dart, or 1 for yes and 0 for no.
         first: u32,
-        /// Darts for orbits, lists and the reader; entries for plans, and for lists of commands in all; bytes
-        /// for the writer.
+        /// What was written: darts for orbits, lists and the reader; entries for plans, and for lists of commands
+        /// in all; bytes for the writer. Of a vertex, edge or volume identifier the size of the cell: its darts.
         count: u64,
     },
     /// Refused; rows, flags, vertices, plan, output and bytes are as they were (scope: what is left).
@@ -44,7 +44,7 @@ pub enum Refusal {
     AsymmetricalFaces { ld: u32, rd: u32 },
     /// 10: the two edges do not point against each other.
     BadGeometry { i: u32, ld: u32, rd: u32 },
-    /// 11: the plan needs this many entries, and fewer fit.
+    /// 11: the plan needs this many entries, of [`ENTRY_NUMBERS`](crate::ENTRY_NUMBERS) numbers each, and fewer fit.
     PlanRoom { entries: u64 },
     /// 12: this header word (0 to 6), or the flags (7), or the vertices (8) of the image are wrong.
     BadImage { part: u32 },
@@ -156,7 +156,7 @@ fn loan_name(loan: u32) -> &'static str {
 impl fmt::Display for Answer {
     fn fmt(&self, f: &mut fmt::Formatter<'_>) -> fmt::Result {
         match self {
-            Self::Done { first, count } => write!(f, "done: {first}, {count} written"),
+            Self::Done { first, count } => write!(f, "done: {first}, count {count}"),
             Self::Refused(refusal) => refusal.fmt(f),
         }
     }

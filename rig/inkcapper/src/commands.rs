@@ -158,7 +158,7 @@ impl Loans {
                 &self.lists.commands,
             );
             let answer = done.done()?;
-            let room = self.plan.len() / 4;
+            let room = self.plan_room();
             if room >= most || !self.lists.answers.chunks_exact(5).any(|five| five[0] == 11) {
                 return Ok(answer);
             }
@@ -211,7 +211,7 @@ impl Loans {
         self.grow_plan(likely.min(most));
         // where the plan runs out the list goes on without what was refused, so that it has to be made again
         // from where it began
-        if self.plan.len() / 4 < most {
+        if self.plan_room() < most {
             self.lists.rows.clear();
             self.lists.rows.extend_from_slice(rows);
         }

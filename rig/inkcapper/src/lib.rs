@@ -8,7 +8,8 @@
 //! - [`read_image`] and [`write_image`] are for stored maps, in buffers of their size.
 //! - [`Answer`] and [`Refusal`] are what calls answer, as types; each says its number.
 //!
-//! A map is its rows and its flags: an unused dart has no image. The exact rules are docs/SCOPE.md, whose paragraphs are cited by name (scope: 3-link).
+//! A map is its rows and its flags: an unused dart has no image. Identifiers and plans say how many darts a cell has.
+//! The exact rules are docs/SCOPE.md, whose paragraphs are cited by name (scope: 3-link).
 //!
 //! Nothing here panics, whatever the arguments: every test is the library's, and it refuses.
 //!
@@ -26,8 +27,8 @@ pub mod slices;
 pub use answer::{Answer, Refusal};
 pub use commands::{Answers, Command};
 pub use image::{Image, read_image, write_image, write_map};
-pub use loans::{Cell, Entry, Kind, Loans, MOST_DARTS, Orbit, Sewn, Vertices};
+pub use loans::{Cell, ENTRY_NUMBERS, Entry, Identifier, Kind, Loans, MOST_DARTS, Orbit, Sewn, Vertices};
 
 /// The version of the C boundary that this crate is written for, `INKCAPPER_VERSION` of its header: raised whenever
 /// a function's parameters or its meaning change, and this crate's own version with it.
-pub const VERSION: u32 = 4;
+pub const VERSION: u32 = 5;

@@ -7,6 +7,9 @@ use crate::slices;
 /// The most darts that a map may have, the null dart counted.
 pub const MOST_DARTS: usize = 1_048_576;
 
+/// How many numbers an entry of a plan has (scope: plan): a code, three identifiers and two sizes.
+pub const ENTRY_NUMBERS: usize = 6;
+
 /// Classes of cells that have an identifier and a list.
 #[derive(Debug, Clone, Copy, PartialEq, Eq, Hash)]
 pub enum Cell {
@@ -41,6 +44,16 @@ pub enum Orbit<'a> {
     Custom(&'a [u8]),
 }
 
+/// A cell as [`Loans::identifier`] names it.
+#[derive(Debug, Clone, Copy, PartialEq, Eq, Hash)]
+pub struct Identifier {
+    /// The dart that names it: the least of a vertex, an edge or a volume, and of a face honeycomb's.
+    pub dart: u32,
+    /// How many darts a vertex, an edge or a volume has; 0 for the null dart. Those of a face are not counted, and
+    /// this is 0.
+    pub size: u32,
+}
+
 /// What becomes of the cells of an entry.
 #[derive(Debug, Clone, Copy, PartialEq, Eq, Hash)]
 pub enum Kind {
@@ -51,6 +64,10 @@ pub enum Kind {
 }
 
 /// An entry of a plan (scope: plan): what is to be merged or split in the caller's own stores, in order.
+///
+/// The sizes are those of the left and of the right cell as they were before a sew linked, or are after an unsew has
+/// unlinked. What a sew leaves has as many darts as both together where the entry is an edge merge, a vertex merge of
+/// a 1-sew, or the one vertex merge of a 2-sew; where a 2-sew has two, only if no cell is named by both (scope: sums).
 #[derive(Debug, Clone, Copy, PartialEq, Eq, Hash)]
 pub struct Entry {
     /// The class of the cells.
@@ -63,12 +80,16 @@ pub struct Entry {
     pub right: u32,
     /// The identifier of the one: what a merge leaves, what a split comes from; the lesser of the two.
     pub whole: u32,
+    /// How many darts the left cell has; 0 where it is null, and for a face split the pairs that were parted.
+    pub left_size: u32,
+    /// The same of the right cell.
+    pub right_size: u32,
 }
 
 impl Entry {
-    /// The entry that four numbers of a plan say, if they are one.
+    /// The entry that [`ENTRY_NUMBERS`] numbers of a plan say, if they are one.
     fn read(words: &[u32]) -> Option<Self> {
-        let &[code, a, b, c] = words else { return None };
+        let &[code, a, b, c, left_size, right_size] = words else { return None };
         let (class, kind) = match code {
             1 => (Cell::Vertex, Kind::Merge),
             2 => (Cell::Edge, Kind::Merge),
@@ -78,7 +99,7 @@ impl Entry {
             _ => return None,
         };
         let [left, right, whole] = if kind == Kind::Merge { [b, c, a] } else { [a, b, c] };
-        Some(Self { class, kind, left, right, whole })
+        Some(Self { class, kind, left, right, whole, left_size, right_size })
     }
 }
 
@@ -105,19 +126,25 @@ pub struct Vertices<'a> {
 ///
 /// ```
 /// # #[cfg(not(feature = "linked"))] extern crate c_names;
-/// use inkcapper::{Cell, Entry, Kind, Loans, Orbit, Refusal, map};
+/// use inkcapper::{Cell, Entry, Identifier, Kind, Loans, Orbit, Refusal, map};
 ///
 /// let (mut rows, flags) = (vec![0; 16], [0, 0, 0, 1]); // two free darts, and one that is unused
 /// let mut loans = Loans::new();
 /// map::three_link(&mut rows, &flags, 1, 2)?;
-/// assert_eq!(loans.identifier(Cell::Face, &rows, &flags, 2)?, 1);
+/// assert_eq!(loans.identifier(Cell::Face, &rows, &flags, 2)?.dart, 1);
+/// assert_eq!(loans.identifier(Cell::Edge, &rows, &flags, 2)?, Identifier { dart: 1, size: 2 });
 /// assert_eq!(loans.orbit(Orbit::Edge, &rows, &flags, 2)?, [2, 1]);
 /// assert_eq!(loans.orbit(Orbit::Edge, &rows, &flags, 3)?, [3]); // an unused dart stands alone
 ///
 /// let sewn = loans.three_unsew(&mut rows, &flags, 1)?;
 /// assert_eq!(sewn.dart, 2);
 /// assert_eq!(sewn.plan.len(), 4);
-/// assert_eq!(sewn.plan[0], Entry { class: Cell::Face, kind: Kind::Split, left: 1, right: 2, whole: 1 });
+/// let [face, edge, far, near] = [0, 1, 2, 3].map(|at| sewn.plan[at]);
+/// assert_eq!((face.class, face.kind), (Cell::Face, Kind::Split));
+/// let sizes = |entry: Entry| (entry.left_size, entry.right_size);
+/// assert_eq!((edge.left, edge.right, edge.whole, sizes(edge)), (1, 2, 1, (1, 1)));
+/// assert_eq!((far.left, far.right, far.whole, sizes(far)), (0, 2, 0, (0, 1))); // dart 1 has no far end
+/// assert_eq!((near.left, near.right, near.whole, sizes(near)), (1, 0, 0, (1, 0)));
 /// assert_eq!(loans.three_unsew(&mut rows, &flags, 1), Err(Refusal::AlreadyFree { i: 3, d: 1 }));
 /// assert_eq!(loans.three_unsew(&mut rows, &flags, 3), Err(Refusal::BadDart { argument: 1 }));
 /// # Ok::<(), Refusal>(())
@@ -160,27 +187,32 @@ impl Loans {
 
     /// Grows the plan to room for so many entries.
     pub(crate) fn grow_plan(&mut self, entries: usize) {
-        if self.plan.len() < 4 * entries {
-            self.plan.resize(4 * entries, 0);
+        if self.plan.len() < ENTRY_NUMBERS * entries {
+            self.plan.resize(ENTRY_NUMBERS * entries, 0);
         }
+    }
+
+    /// How many entries the plan has room for.
+    pub(crate) fn plan_room(&self) -> usize {
+        self.plan.len() / ENTRY_NUMBERS
     }
 
     /// Reads the first `count` entries of the plan.
     pub(crate) fn read_plan(&mut self, dart: u32, count: u64) -> Result<(), Refusal> {
         self.entries.clear();
-        for words in written(&self.plan, dart, count, 4)?.chunks_exact(4) {
+        for words in written(&self.plan, dart, count, ENTRY_NUMBERS)?.chunks_exact(ENTRY_NUMBERS) {
             let fault = Refusal::Unknown { number: 0, values: [dart.into(), count, words[0].into()] };
             self.entries.push(Entry::read(words).ok_or(fault)?);
         }
         Ok(())
     }
 
-    /// The identifier of the cell of `d`; an unused dart is alone in its cell.
+    /// The identifier of the cell of `d`, with its size; an unused dart is alone in its cell.
     ///
     /// # Errors
     ///
     /// Refusals 1, 3 and 4, and 2 for short flags.
-    pub fn identifier(&mut self, cell: Cell, rows: &[u32], flags: &[u8], d: u32) -> Result<u32, Refusal> {
+    pub fn identifier(&mut self, cell: Cell, rows: &[u32], flags: &[u8], d: u32) -> Result<Identifier, Refusal> {
         self.grow(rows);
         let call = match cell {
             Cell::Vertex => slices::vertex_id,
@@ -188,7 +220,10 @@ impl Loans {
             Cell::Face => slices::face_id,
             Cell::Volume => slices::volume_id,
         };
-        call(rows, &mut self.marks, &mut self.queue, flags, d).done().map(|(first, _)| first)
+        let (dart, count) = call(rows, &mut self.marks, &mut self.queue, flags, d).done()?;
+        // a size that is no u32 would be a fault of the library, and is named as such
+        let fault = Refusal::Unknown { number: 0, values: [dart.into(), count, 0] };
+        u32::try_from(count).map(|size| Identifier { dart, size }).map_err(|_| fault)
     }
 
     /// The darts of an orbit of `d`, first found first.
@@ -243,7 +278,7 @@ impl Loans {
             // a plan has at most one face split and three entries for each dart of a side
             let most = 1 + 3 * (rows.len() / 4);
             let needed = usize::try_from(entries).ok();
-            if let Some(needed) = needed.filter(|&needed| needed <= most && needed > self.plan.len() / 4) {
+            if let Some(needed) = needed.filter(|&needed| needed <= most && needed > self.plan_room()) {
                 self.grow_plan(needed);
                 answer = call(rows, &mut self.marks, &mut self.queue, &mut self.plan);
             }
@@ -254,6 +289,25 @@ impl Loans {
     }
 
     /// 1-sews `ld` to `rd` (scope: 1-sew).
+    ///
+    /// ```
+    /// # #[cfg(not(feature = "linked"))] extern crate c_names;
+    /// use inkcapper::{Cell, Identifier, Loans, Refusal, map};
+    ///
+    /// let (mut rows, flags, mut loans) = (vec![0; 24], [0; 6], Loans::new());
+    /// map::two_link(&mut rows, &flags, 1, 2)?; // 2 is a vertex by itself
+    /// map::two_link(&mut rows, &flags, 3, 4)?;
+    /// map::one_link(&mut rows, &flags, 4, 5)?; // 3 and 5 are one
+    /// let merge = loans.one_sew(&mut rows, &flags, 1, 3)?.plan[0];
+    /// assert_eq!((merge.left, merge.left_size, merge.right, merge.right_size, merge.whole), (2, 1, 3, 2, 2));
+    /// let weighted = |left: f64, right: f64| {
+    ///     let [l, r] = [merge.left_size, merge.right_size].map(f64::from);
+    ///     (l * left + r * right) / (l + r)
+    /// };
+    /// assert_eq!(weighted(0.0, 9.0), 6.0);
+    /// assert_eq!(loans.identifier(Cell::Vertex, &rows, &flags, 5)?, Identifier { dart: 2, size: 3 });
+    /// # Ok::<(), Refusal>(())
+    /// ```
     ///
     /// # Errors
     ///

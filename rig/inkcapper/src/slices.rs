@@ -129,13 +129,15 @@ sews! {
     ///
     /// ```
     /// # #[cfg(not(feature = "linked"))] extern crate c_names;
-    /// use inkcapper::{Answer, slices};
+    /// use inkcapper::{Answer, ENTRY_NUMBERS, slices};
     /// let (mut rows, flags) = ([0; 12], [0; 3]);
     /// slices::three_link(&mut rows, &flags, 1, 2);
-    /// let (mut marks, mut queue, mut plan) = ([0; 3], [0; 3], [0; 16]);
+    /// let (mut marks, mut queue, mut plan) = ([0; 3], [0; 3], [0; 4 * ENTRY_NUMBERS]);
     /// let answer = slices::three_unsew(&mut rows, &mut marks, &mut queue, &flags, &mut plan, 1);
     /// assert_eq!(answer, Answer::Done { first: 2, count: 4 });
-    /// assert_eq!(plan, [13, 1, 2, 1, 12, 1, 2, 1, 11, 0, 2, 0, 11, 1, 0, 0]);
+    /// // a code, three identifiers, and the sizes of the left and the right cell
+    /// assert_eq!(plan[..12], [13, 1, 2, 1, 1, 1, 12, 1, 2, 1, 1, 1]);
+    /// assert_eq!(plan[12..], [11, 0, 2, 0, 0, 1, 11, 1, 0, 0, 1, 0]);
     /// ```
     three_unsew, inkcapper_three_unsew (ld);
 }
@@ -186,7 +188,7 @@ pub fn two_sew(
 /// ```
 /// # #[cfg(not(feature = "linked"))] extern crate c_names;
 /// use inkcapper::{Answer, Refusal, slices};
-/// let (mut rows, mut marks, mut queue, mut output, mut plan) = ([0; 12], [0; 3], [0; 3], [0; 15], [0; 16]);
+/// let (mut rows, mut marks, mut queue, mut output, mut plan) = ([0; 12], [0; 3], [0; 3], [0; 15], [0; 24]);
 /// let (flags, vertex_marks, coordinates) = ([0; 3], [0; 3], [0.0; 9]); // no dart unused, no point
 /// let mut run = |list: &[u32]| {
 ///     let (rows, marks, queue, output, plan) = (&mut rows, &mut marks, &mut queue, &mut output, &mut plan);
@@ -196,7 +198,8 @@ pub fn two_sew(
 /// // a 3-link, the same again, a 3-unsew, whose second dart is not looked at
 /// assert_eq!(run(&[3, 1, 2, 3, 1, 2, 11, 1, 99]), Answer::Done { first: 0, count: 4 });
 /// assert_eq!(output, [0, 0, 0, 0, 0, 6, 3, 1, 2, 0, 0, 2, 0, 0, 4]);
-/// assert_eq!(plan, [13, 1, 2, 1, 12, 1, 2, 1, 11, 0, 2, 0, 11, 1, 0, 0]);
+/// assert_eq!(plan[..12], [13, 1, 2, 1, 1, 1, 12, 1, 2, 1, 1, 1]);
+/// assert_eq!(plan[12..], [11, 0, 2, 0, 0, 1, 11, 1, 0, 0, 1, 0]);
 /// ```
 #[allow(clippy::too_many_arguments)]
 pub fn commands(

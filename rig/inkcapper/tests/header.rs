@@ -1,6 +1,6 @@
 //! The C header, the Rust declarations and the exported functions of the crate `inkcapper` say the same:
 //! the same functions, and for each parameters of the same types in the same order; header and Rust
-//! declarations have the same names for them too. Header and crate have the same version.
+//! declarations have the same names for them too. Header and crate have the same version and the same limits.
 
 use std::collections::BTreeMap;
 use std::path::{Path, PathBuf};
@@ -118,13 +118,25 @@ fn header() -> Functions {
     of_header(&header_text())
 }
 
+/// The number that the header defines under a name.
+fn defined(name: &str) -> Option<usize> {
+    let text = header_text();
+    let (_, behind) = text.split_once(&format!("#define INKCAPPER_{name} "))?;
+    behind.lines().next()?.parse().ok()
+}
+
 #[test]
 fn header_and_crate_have_one_version() {
-    let text = header_text();
-    let (_, behind) = text.split_once("#define INKCAPPER_VERSION ").expect("a version");
-    let number = behind.lines().next().and_then(|number| number.parse().ok());
-    assert_eq!(number, Some(inkcapper::VERSION));
+    assert_eq!(defined("VERSION"), Some(inkcapper::VERSION as usize));
     assert_eq!(env!("CARGO_PKG_VERSION"), format!("0.{}.0", inkcapper::VERSION));
+    // raised since a plan's entries have six numbers
+    assert_eq!(inkcapper::VERSION, 5);
+}
+
+#[test]
+fn header_and_crate_have_the_same_limits() {
+    assert_eq!(defined("MOST_DARTS"), Some(inkcapper::MOST_DARTS));
+    assert_eq!(defined("ENTRY_NUMBERS"), Some(inkcapper::ENTRY_NUMBERS));
 }
 
 #[test]

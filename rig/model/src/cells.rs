@@ -102,15 +102,25 @@ pub(crate) fn face_of(rows: &[u32], d: u32) -> u32 {
     least
 }
 
-/// Vertex, edge and volume identifiers are the least dart of the orbit; a face's is its walk's.
-pub(crate) fn identifier_of(rows: &[u32], cell: Cell, d: u32) -> u32 {
+/// A cell by its identifier, with its size: the number of its darts.
+#[derive(Debug, Clone, Copy, PartialEq, Eq)]
+pub(crate) struct Named {
+    pub(crate) name: u32,
+    pub(crate) size: u32,
+}
+
+/// Vertices, edges and volumes are named by the least dart of the orbit, whose length is their size; the null dart is
+/// of size 0. A face is named by its walk, and its darts are not counted.
+pub(crate) fn named(rows: &[u32], cell: Cell, d: u32) -> Named {
     let orbit = match cell {
         Cell::Vertex => Orbit::Vertex,
         Cell::Edge => Orbit::Edge,
-        Cell::Face => return face_of(rows, d),
+        Cell::Face => return Named { name: face_of(rows, d), size: 0 },
         Cell::Volume => Orbit::Volume,
     };
-    orbit_of(rows, orbit, d).into_iter().fold(d, u32::min)
+    let darts = orbit_of(rows, orbit, d);
+    let size = if d == 0 { 0 } else { darts.len() as u32 };
+    Named { name: darts.into_iter().fold(d, u32::min), size }
 }
 
 /// Marks and queue as a call leaves them once tests 1 to 5 have passed, refused later or not.
@@ -119,7 +129,8 @@ pub(crate) fn leave_scratch(n: usize, marks: &mut [u8], queue: &mut [u32]) {
     queue[..n].fill(0);
 }
 
-/// The identifier of the cell of `d`, which may be unused: it is then alone in its cell.
+/// The identifier of the cell of `d`, which may be unused: it is then alone in its cell. The size of a vertex, an
+/// edge or a volume is the second value.
 pub fn identifier(cell: Cell, rows: &[u32], marks: &mut [u8], queue: &mut [u32], flags: &[u8], d: u32) -> Answer {
     answer((|| {
         let n = size(rows)?;
@@ -127,7 +138,8 @@ pub fn identifier(cell: Cell, rows: &[u32], marks: &mut [u8], queue: &mut [u32],
         map(rows, flags)?;
         darts(n, &[d])?;
         leave_scratch(n, marks, queue);
-        Ok(done(identifier_of(rows, cell, d), 0))
+        let Named { name, size } = named(rows, cell, d);
+        Ok(done(name, size as usize))
     })())
 }
 
@@ -151,7 +163,7 @@ pub fn orbit(orbit: Orbit<'_>, rows: &[u32], marks: &mut [u8], output: &mut [u32
 
 /// Every d from 1 to n-1 not unused whose identifier is d, ascending.
 pub(crate) fn list_of(rows: &[u32], cell: Cell, flags: &[u8]) -> Vec<u32> {
-    (1..(rows.len() / 4) as u32).filter(|&d| flags[d as usize] == 0 && identifier_of(rows, cell, d) == d).collect()
+    (1..(rows.len() / 4) as u32).filter(|&d| flags[d as usize] == 0 && named(rows, cell, d).name == d).collect()
 }
 
 /// The cells of a class, written to the start of `output`.

@@ -1,7 +1,7 @@
 //! A list of commands in one call.
 
 use crate::cells::leave_scratch;
-use crate::{Answer, answer, done, links, loans, map, refused, sews, size};
+use crate::{Answer, ENTRY_NUMBERS, answer, done, links, loans, map, refused, sews, size};
 
 /// What every command of a list is lent, beside what is left of the plan.
 struct Lent<'a> {
@@ -37,7 +37,7 @@ fn command(lent: &mut Lent<'_>, plan: &mut [u32], [operation, ld, rd]: [u32; 3])
 fn in_turn(mut lent: Lent<'_>, output: &mut [u32], plan: &mut [u32], list: &[u32]) -> usize {
     let mut written = 0;
     for (numbers, place) in list.chunks_exact(3).zip(output.chunks_exact_mut(5)) {
-        let rest = &mut plan[4 * written..];
+        let rest = &mut plan[ENTRY_NUMBERS * written..];
         let (number, [first, second, third]) = command(&mut lent, rest, [numbers[0], numbers[1], numbers[2]]);
         // of a call that is done the second value is the count, which has a place of its own here
         let (values, entries) = if number == 0 { ([first, 0, 0], second) } else { ([first, second, third], 0) };
@@ -57,14 +57,16 @@ fn in_turn(mut lent: Lent<'_>, output: &mut [u32], plan: &mut [u32], list: &[u32
 /// ```
 /// let (mut rows, mut marks, mut queue) = ([0; 16], [9; 4], [9; 4]);
 /// let (flags, no_points, nowhere) = ([0, 0, 0, 1], [0; 4], [0.0; 12]); // dart 3 is unused
-/// let (mut output, mut plan) = ([9; 21], [9; 18]);
+/// let (mut output, mut plan) = ([9; 21], [9; 27]);
 /// let list = [3, 1, 2, 3, 1, 2, 11, 2, 77, 2, 1, 3]; // 3-link 1 and 2, the same again, 3-unsew 2, 2-link 1 and 3
 /// let answer = model::commands(
 ///     &mut rows, &mut marks, &mut queue, &mut output, &flags, &no_points, &nowhere, &mut plan, &list,
 /// );
 /// assert_eq!(answer, (0, [0, 4, 0]));
 /// assert_eq!(output, [0, 0, 0, 0, 0, 6, 3, 1, 2, 0, 0, 1, 0, 0, 4, 4, 2, 0, 0, 0, 9]);
-/// assert_eq!(plan, [13, 2, 1, 1, 12, 2, 1, 1, 11, 0, 1, 0, 11, 2, 0, 0, 9, 9]);
+/// // behind the three identifiers of an entry stand the sizes of its two cells
+/// assert_eq!(plan[..12], [13, 2, 1, 1, 1, 1, 12, 2, 1, 1, 1, 1]);
+/// assert_eq!(plan[12..], [11, 0, 1, 0, 0, 1, 11, 2, 0, 0, 1, 0, 9, 9, 9]);
 /// assert_eq!((rows, marks, queue), ([0; 16], [0; 4], [0; 4]));
 /// ```
 #[allow(clippy::too_many_arguments)]

@@ -1,7 +1,7 @@
 //! The scope (docs/SCOPE.md) written down once more: every call, plainly, from its prose.
 //!
 //! This is what a kernel is held against where the published Rust has no say: refusals 1 to 5 and 11 to
-//! 14, what becomes of each loan, reader and writer of images, and the report. Where the Rust has a say
+//! 14, sizes of cells, what becomes of each loan, reader and writer of images, and the report. Where the Rust has a say
 //! the two are held against each other. So this text knows nothing of the Rust's, and takes the short way
 //! everywhere: it works on a copy and puts the copy back when all went well, which makes true by its shape
 //! that a refusal changes nothing.
@@ -42,10 +42,13 @@ pub type Answer = (u32, [u64; 3]);
 /// The most darts that a map may have, the null dart counted.
 pub const MOST_DARTS: usize = 1_048_576;
 
+/// How many numbers an entry of a plan has (scope: plan).
+pub const ENTRY_NUMBERS: usize = 6;
+
 /// A step that may end the call with a refusal.
 pub(crate) type Step<T> = Result<T, Answer>;
 
-/// Done: the dart or yes/no answered, then the count written.
+/// Done: the dart or yes/no answered, then the count written or the size of a cell.
 pub(crate) fn done(first: u32, count: usize) -> Answer {
     (0, [u64::from(first), count as u64, 0])
 }

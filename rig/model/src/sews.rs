@@ -1,8 +1,8 @@
 //! Sews and unsews with their plans.
 
-use crate::cells::{Cell, identifier_of, leave_scratch};
+use crate::cells::{Cell, Named, leave_scratch, named};
 use crate::links::{link_core, three_unlink_walk, unlink_core};
-use crate::{Answer, Step, answer, done, image, loans, map, refused, size, used_darts};
+use crate::{Answer, ENTRY_NUMBERS, Step, answer, done, image, loans, map, refused, size, used_darts};
 
 const VERTEX_MERGE: u32 = 1;
 const EDGE_MERGE: u32 = 2;
@@ -10,14 +10,17 @@ const VERTEX_SPLIT: u32 = 11;
 const EDGE_SPLIT: u32 = 12;
 const FACE_SPLIT: u32 = 13;
 
-/// The vertex identifier of `d`.
-fn vertex(rows: &[u32], d: u32) -> u32 {
-    identifier_of(rows, Cell::Vertex, d)
+/// An entry of a plan: code, three identifiers, the sizes of the left and of the right cell.
+type Entry = [u32; ENTRY_NUMBERS];
+
+/// The vertex of `d` in these rows.
+fn vertex(rows: &[u32], d: u32) -> Named {
+    named(rows, Cell::Vertex, d)
 }
 
-/// The edge identifier of `d`.
-fn edge(rows: &[u32], d: u32) -> u32 {
-    identifier_of(rows, Cell::Edge, d)
+/// The edge of `d` in these rows.
+fn edge(rows: &[u32], d: u32) -> Named {
+    named(rows, Cell::Edge, d)
 }
 
 /// M: the larger of the two named images of `d`.
@@ -25,17 +28,17 @@ fn larger(rows: &[u32], i: usize, j: usize, d: u32) -> u32 {
     image(rows, i, d).max(image(rows, j, d))
 }
 
-/// A merge if the two differ: out (the lesser), left in, right in.
-fn merge(plan: &mut Vec<[u32; 4]>, code: u32, left: u32, right: u32) {
-    if left != right {
-        plan.push([code, left.min(right), left, right]);
+/// A merge if the two are named differently: out (the lesser), left in, right in, and their sizes.
+fn merge(plan: &mut Vec<Entry>, code: u32, left: Named, right: Named) {
+    if left.name != right.name {
+        plan.push([code, left.name.min(right.name), left.name, right.name, left.size, right.size]);
     }
 }
 
-/// A split if the two differ: left out, right out, in (the lesser).
-fn split(plan: &mut Vec<[u32; 4]>, code: u32, left: u32, right: u32) {
-    if left != right {
-        plan.push([code, left, right, left.min(right)]);
+/// A split if the two are named differently: left out, right out, in (the lesser), and their sizes.
+fn split(plan: &mut Vec<Entry>, code: u32, left: Named, right: Named) {
+    if left.name != right.name {
+        plan.push([code, left.name, right.name, left.name.min(right.name), left.size, right.size]);
     }
 }
 
@@ -55,7 +58,7 @@ fn sew_on_copy(
     more: &[(u64, usize, usize)],
     plan: &mut [u32],
     arguments: &[u32],
-    work: impl FnOnce(&mut [u32], &mut Vec<[u32; 4]>) -> Step<u32>,
+    work: impl FnOnce(&mut [u32], &mut Vec<Entry>) -> Step<u32>,
 ) -> Answer {
     answer((|| {
         let n = size(rows)?;
@@ -68,18 +71,18 @@ fn sew_on_copy(
         let mut copy = rows.to_vec();
         let mut entries = Vec::new();
         let first = work(&mut copy, &mut entries)?;
-        if entries.len() > plan.len() / 4 {
+        if entries.len() > plan.len() / ENTRY_NUMBERS {
             return refused(11, &[entries.len() as u64]);
         }
         rows.copy_from_slice(&copy);
-        for (place, entry) in plan.chunks_exact_mut(4).zip(&entries) {
+        for (place, entry) in plan.chunks_exact_mut(ENTRY_NUMBERS).zip(&entries) {
             place.copy_from_slice(entry);
         }
         Ok(done(first, entries.len()))
     })())
 }
 
-/// 1-sew. m = M(beta 3, beta 2 of ld); before linking, vl = vertex of m, vr = vertex of rd.
+/// 1-sew. m = M(beta 3, beta 2 of ld); before linking, vl = vertex of m, vr = vertex of rd, named and counted.
 pub fn one_sew(
     rows: &mut [u32],
     marks: &mut [u8],
@@ -105,7 +108,7 @@ pub fn one_sew(
 }
 
 /// 1-unsew: unlink; if both have beta 3, beta 1 of beta 3 of rd must be beta 3 of ld, else 9, and
-/// that is unlinked too. Then the split on new identifiers.
+/// that is unlinked too. Then the split on new identifiers and sizes.
 pub fn one_unsew(
     rows: &mut [u32],
     marks: &mut [u8],
@@ -143,7 +146,7 @@ fn dot(m1: [f64; 3], l: [f64; 3], m2: [f64; 3], r: [f64; 3]) -> f64 {
     (product(0) + product(1)) + product(2)
 }
 
-/// 2-sew. m1 = M(beta 1, beta 3) of ld, m2 of rd; all identifiers before linking.
+/// 2-sew. m1 = M(beta 1, beta 3) of ld, m2 of rd; all identifiers and sizes before linking.
 #[allow(clippy::too_many_arguments)]
 pub fn two_sew(
     rows: &mut [u32],
@@ -162,7 +165,7 @@ pub fn two_sew(
         let (el, er) = (edge(rows, ld), edge(rows, rd));
         let (vl, vm2) = (vertex(rows, ld), vertex(rows, m2));
         let (vm1, vr) = (vertex(rows, m1), vertex(rows, rd));
-        let point = |v: u32| slot(vertex_marks, coordinates, v);
+        let point = |v: Named| slot(vertex_marks, coordinates, v.name);
         if let (Some(pl), Some(pm2), Some(pm1), Some(pr)) = (point(vl), point(vm2), point(vm1), point(vr)) {
             // a NaN compares false and so doesn't refuse
             if dot(pm1, pl, pm2, pr) >= 0.0 {
@@ -181,7 +184,7 @@ pub fn two_sew(
     })
 }
 
-/// 2-unsew: unlink first; the 2-sew's three as splits, on new identifiers.
+/// 2-unsew: unlink first; the 2-sew's three as splits, on new identifiers and sizes.
 pub fn two_unsew(
     rows: &mut [u32],
     marks: &mut [u8],
@@ -204,8 +207,9 @@ pub fn two_unsew(
     })
 }
 
-/// 3-unsew: 3-unlink collecting pairs in walk order. A face split, always; then for each pair its
-/// edge, its vertex at the far end and, where the chain begins, the one at the near end.
+/// 3-unsew: 3-unlink collecting pairs in walk order. A face split, always, of as many darts on each side as there
+/// are pairs; then for each pair its edge, its vertex at the far end and, where the chain begins, the one at the
+/// near end, all on the rows after the last pair is parted.
 pub fn three_unsew(
     rows: &mut [u32],
     marks: &mut [u8],
@@ -218,10 +222,11 @@ pub fn three_unsew(
         let (rd, pairs) = three_unlink_walk(rows, ld)?;
         let left = pairs.iter().map(|p| p.0).fold(ld, u32::min);
         let right = pairs.iter().map(|p| p.1).fold(rd, u32::min);
-        plan.push([FACE_SPLIT, left, right, left.min(right)]);
+        let side = pairs.len() as u32;
+        plan.push([FACE_SPLIT, left, right, left.min(right), side, side]);
         for (l, r) in pairs {
             split(plan, EDGE_SPLIT, edge(rows, l), edge(rows, r));
-            // a null M gives identifier 0, and that split is listed
+            // a null M gives identifier 0 and size 0, and that split is listed
             split(plan, VERTEX_SPLIT, vertex(rows, larger(rows, 1, 2, l)), vertex(rows, r));
             if image(rows, 0, l) == 0 {
                 split(plan, VERTEX_SPLIT, vertex(rows, l), vertex(rows, larger(rows, 1, 2, r)));

@@ -1,6 +1,6 @@
 //! Lists of commands: worked ones, and that a list is its calls one after another.
 
-use model::Answer;
+use model::{Answer, ENTRY_NUMBERS};
 
 /// What a list is lent and what it leaves; scratch is dirty before and every loan longer than it has to be.
 #[derive(Debug, Clone, PartialEq)]
@@ -16,8 +16,8 @@ struct Lent {
 }
 
 impl Lent {
-    /// Loans around these rows, with all darts used, without points, with room for so many entries and two words
-    /// more. Nobody asks for the flag of dart 0.
+    /// Loans around these rows, with all darts used, without points, with room for so many entries and five words
+    /// more, which are none. Nobody asks for the flag of dart 0.
     fn around(rows: Vec<u32>, commands: usize, entries: usize) -> Self {
         let n = rows.len() / 4;
         Self {
@@ -28,7 +28,7 @@ impl Lent {
             flags: [&[9][..], &vec![0; n]].concat(),
             vertex_marks: vec![0; n + 1],
             coordinates: vec![0.0; 3 * n + 2],
-            plan: vec![7; 4 * entries + 2],
+            plan: vec![7; ENTRY_NUMBERS * entries + 5],
         }
     }
 
@@ -39,12 +39,12 @@ impl Lent {
 }
 
 /// Runs a list whose loans do: the answers of its commands, the rows and the entries of the plan.
-fn done(rows: &[u32], list: &[[u32; 3]], entries: usize) -> (Vec<[u32; 5]>, Vec<u32>, Vec<[u32; 4]>) {
+fn done(rows: &[u32], list: &[[u32; 3]], entries: usize) -> (Vec<[u32; 5]>, Vec<u32>, Vec<[u32; ENTRY_NUMBERS]>) {
     let n = rows.len() / 4;
     let mut lent = Lent::around(rows.to_vec(), list.len(), entries);
     let (number, [first, count, third]) = lent.run(&list.concat());
     assert_eq!((number, first, third), (0, 0, 0));
-    let written = 4 * count as usize;
+    let written = ENTRY_NUMBERS * count as usize;
     assert!(lent.plan[written..].iter().all(|&word| word == 7), "plan behind the count");
     assert_eq!(
         (&lent.output[5 * list.len()..], &lent.marks[n..], &lent.queue[n..]),
@@ -52,7 +52,11 @@ fn done(rows: &[u32], list: &[[u32; 3]], entries: usize) -> (Vec<[u32; 5]>, Vec<
     );
     assert!(lent.marks[..n].iter().all(|&mark| mark == 0) && lent.queue[..n].iter().all(|&place| place == 0));
     let answers = lent.output[..5 * list.len()].chunks_exact(5).map(|five| five.try_into().unwrap()).collect();
-    (answers, lent.rows, lent.plan[..written].chunks_exact(4).map(|entry| entry.try_into().unwrap()).collect())
+    (
+        answers,
+        lent.rows,
+        lent.plan[..written].chunks_exact(ENTRY_NUMBERS).map(|entry| entry.try_into().unwrap()).collect(),
+    )
 }
 
 #[test]
@@ -75,8 +79,8 @@ fn plans_behind_each_other_until_there_is_no_room() {
     let (answers, rows, plan) = done(&[0; 12], &list, 10);
     let fives: Vec<u32> = answers.iter().map(|answer| answer[4]).collect();
     assert_eq!((fives, rows), (vec![0, 4, 0, 1, 0, 4, 0, 0, 1], vec![0; 12]));
-    let unsewn = |l: u32, r: u32| [[13, l, r, 1], [12, l, r, 1], [11, 0, r, 0], [11, l, 0, 0]];
-    let all = [&unsewn(1, 2)[..], &[[12, 1, 2, 1]], &unsewn(2, 1), &[[12, 2, 1, 1]]].concat();
+    let unsewn = |l: u32, r: u32| [[13, l, r, 1, 1, 1], [12, l, r, 1, 1, 1], [11, 0, r, 0, 0, 1], [11, l, 0, 0, 1, 0]];
+    let all = [&unsewn(1, 2)[..], &[[12, 1, 2, 1, 1, 1]], &unsewn(2, 1), &[[12, 2, 1, 1, 1, 1]]].concat();
     assert_eq!((answers[6], plan), ([8, 3, 2, 0, 0], all.clone()));
     // room for six: the second 3-unsew is refused and says what it needs itself, its darts stay linked for the
     // 3-unlink, and the plan of the last command still fits
@@ -97,11 +101,12 @@ fn points_decide_a_two_sew() {
         if number == 0 {
             assert_eq!(answer, (0, [0, 3, 0]));
             assert_eq!(lent.output[10..20], [0, 0, 0, 0, 3, 6, 2, 1, 3, 0]);
-            assert_eq!(lent.plan, [2, 1, 1, 3, 1, 1, 1, 4, 1, 2, 2, 3, 7, 7]);
+            assert_eq!(lent.plan[..12], [2, 1, 1, 3, 1, 1, 1, 1, 1, 4, 1, 1]);
+            assert_eq!(lent.plan[12..], [1, 2, 2, 3, 1, 1, 7, 7, 7, 7, 7]);
         } else {
             assert_eq!(answer, (0, [0, 0, 0]));
             assert_eq!(lent.output[10..20], [10, 2, 1, 3, 0, 0, 0, 0, 0, 0]);
-            assert_eq!(lent.plan, [7; 14]);
+            assert_eq!(lent.plan, [7; 23]);
         }
     }
 }
@@ -154,7 +159,7 @@ fn refusals_in_their_order() {
         flags: vec![8, 0],
         vertex_marks: vec![1; 2],
         coordinates: vec![0.5; 8],
-        plan: vec![7; 3],
+        plan: vec![7; 5],
     };
     (lent.rows[4], lent.rows[5], lent.rows[10]) = (1, 1, 2);
     let mut list = vec![6, 1, 0, 99, 1, 0, 3];
@@ -212,7 +217,7 @@ fn a_list_of_nothing_clears_scratch() {
     let mut lent = Lent::around(vec![0; 8], 0, 0);
     assert_eq!(lent.run(&[]), (0, [0; 3]));
     assert_eq!((lent.marks, lent.queue), (vec![0, 0, 7, 7], vec![0, 0, 7]));
-    assert_eq!((lent.output, lent.plan), (vec![7; 3], vec![7; 2]));
+    assert_eq!((lent.output, lent.plan), (vec![7; 3], vec![7; 5]));
 }
 
 /// Two lists one after the other are the one list of both.

@@ -60,14 +60,15 @@ fn faces() {
 fn three_unsew() {
     let mut linked = rows(3, &[]);
     assert_eq!(model::three_link(&mut linked, &USED, 1, 2), DONE);
-    let mut plan = [9; 15];
+    let mut plan = [9; 23];
     let mut short = linked.clone();
     let answer = model::three_unsew(&mut short, &mut [7; 3], &mut [7; 3], &USED, &mut plan, 1);
-    assert_eq!((answer, plan, &short), ((11, [4, 0, 0]), [9; 15], &linked));
-    let mut plan = [9; 17];
+    assert_eq!((answer, plan, &short), ((11, [4, 0, 0]), [9; 23], &linked));
+    let mut plan = [9; 29];
     let answer = model::three_unsew(&mut linked, &mut [7; 3], &mut [7; 3], &USED, &mut plan, 1);
     assert_eq!(answer, (0, [2, 4, 0]));
-    assert_eq!(plan, [13, 1, 2, 1, 12, 1, 2, 1, 11, 0, 2, 0, 11, 1, 0, 0, 9]);
+    assert_eq!(plan[..12], [13, 1, 2, 1, 1, 1, 12, 1, 2, 1, 1, 1]);
+    assert_eq!(plan[12..], [11, 0, 2, 0, 0, 1, 11, 1, 0, 0, 1, 0, 9, 9, 9, 9, 9]);
 }
 
 #[test]
@@ -77,13 +78,13 @@ fn two_sew() {
     let x = [1.0, 0.0, 0.0];
     let sew = |points: [[f64; 3]; 4]| {
         let coordinates: Vec<f64> = [o].iter().chain(&points).flatten().copied().collect();
-        let (mut rows, mut plan) = (start.clone(), [9; 12]);
+        let (mut rows, mut plan) = (start.clone(), [9; 18]);
         let answer =
             model::two_sew(&mut rows, &mut [7; 5], &mut [7; 5], &USED, &[0, 1, 1, 1, 1], &coordinates, &mut plan, 1, 3);
         (answer, plan)
     };
-    assert_eq!(sew([o, x, x, o]), ((0, [0, 3, 0]), [2, 1, 1, 3, 1, 1, 1, 4, 1, 2, 2, 3]));
-    assert_eq!(sew([o, x, o, [0.0, 1.0, 0.0]]), ((10, [2, 1, 3]), [9; 12]));
+    assert_eq!(sew([o, x, x, o]), ((0, [0, 3, 0]), [2, 1, 1, 3, 1, 1, 1, 1, 1, 4, 1, 1, 1, 2, 2, 3, 1, 1]));
+    assert_eq!(sew([o, x, o, [0.0, 1.0, 0.0]]), ((10, [2, 1, 3]), [9; 18]));
 }
 
 #[test]
@@ -109,7 +110,7 @@ fn settled_readings() {
     assert_eq!(model::three_link(&mut with(3, &[(1, 1, 2)]), &USED, 1, 2), (6, [3, 2, 1]));
     let both = with(3, &[(1, 1, 2), (3, 1, 2)]);
     assert_eq!(model::three_unlink(&mut both.clone(), &USED, 1), (9, [1, 2, 0]));
-    let (marks, queue, plan) = (&mut [0; 3], &mut [0; 3], &mut [0; 40]);
+    let (marks, queue, plan) = (&mut [0; 3], &mut [0; 3], &mut [0; 60]);
     assert_eq!(model::three_unsew(&mut both.clone(), marks, queue, &USED, plan, 1), (9, [1, 2, 0]));
     assert_eq!(model::one_unsew(&mut both.clone(), marks, queue, &USED, plan, 1), (9, [1, 2, 0]));
     let across = with(3, &[(3, 1, 2)]);
@@ -126,11 +127,11 @@ fn settled_readings() {
     assert_eq!(face(&with(5, &[(1, 1, 2), (1, 2, 3), (1, 4, 4), (3, 3, 4)]), 4), 1);
     // a 3-unsew's face split, and a plan that names a merged vertex
     let (marks, queue) = (&mut [0; 4], &mut [0; 4]);
-    let mut plan = [0; 40];
+    let mut plan = [0; 60];
     let answer = model::three_unsew(&mut with(4, &[(1, 3, 1), (3, 2, 3)]), marks, queue, &USED, &mut plan, 2);
-    assert_eq!((answer.0, &plan[..4]), (0, &[13, 2, 3, 2][..]));
-    let mut plan = [0; 12];
+    assert_eq!((answer.0, &plan[..6]), (0, &[13, 2, 3, 2, 1, 1][..]));
+    let mut plan = [0; 18];
     let mut rows = with(4, &[(1, 3, 2), (3, 1, 2)]);
     let answer = model::two_sew(&mut rows, marks, queue, &USED, &[0; 4], &[0.0; 12], &mut plan, 1, 3);
-    assert_eq!((answer, plan), ((0, [0, 3, 0]), [2, 1, 1, 3, 1, 1, 1, 2, 1, 2, 2, 3]));
+    assert_eq!((answer, plan), ((0, [0, 3, 0]), [2, 1, 1, 3, 2, 1, 1, 1, 1, 2, 1, 1, 1, 2, 2, 3, 1, 1]));
 }

@@ -114,7 +114,7 @@ fn short_flags() {
 #[test]
 fn unused_arguments() {
     let (bare, flags) = (vec![0; 20], [0, 0, 1, 9, 0]);
-    let (marks, queue, plan) = (&mut [0; 5], &mut [0; 5], &mut [0; 16]);
+    let (marks, queue, plan) = (&mut [0; 5], &mut [0; 5], &mut [0; 24]);
     for (ld, rd, which) in [(1, 2, 2), (2, 1, 1), (2, 0, 1), (0, 2, 1), (5, 2, 1), (3, 5, 1), (1, 3, 2), (2, 2, 1)] {
         let refusal = (4, [which, 0, 0]);
         assert_eq!(model::one_link(&mut bare.clone(), &flags, ld, rd), refusal);
@@ -134,7 +134,8 @@ fn an_unused_dart_stands_alone() {
     let (bare, flags) = (rows(4, &[(3, 1, 3)]), [0, 0, 1, 0]);
     let (marks, queue, output) = (&mut [0; 4], &mut [0; 4], &mut [9; 4]);
     for cell in [Cell::Vertex, Cell::Edge, Cell::Face, Cell::Volume] {
-        assert_eq!(model::identifier(cell, &bare, marks, queue, &flags, 2), (0, [2, 0, 0]));
+        let size = u64::from(cell != Cell::Face);
+        assert_eq!(model::identifier(cell, &bare, marks, queue, &flags, 2), (0, [2, size, 0]));
     }
     for orbit in [Orbit::Vertex, Orbit::Edge, Orbit::Face, Orbit::VolumeLinear, Orbit::Custom(&[3, 2, 1, 0])] {
         assert_eq!(model::orbit(orbit, &bare, marks, output, &flags, 2), (0, [0, 1, 0]));

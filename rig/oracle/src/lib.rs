@@ -30,7 +30,7 @@ pub const TEXT: &[(&str, usize, u64)] = &include!(concat!(env!("OUT_DIR"), "/tex
 /// An answer's number and its three values, 0 where absent (scope: numbers).
 pub type Answer = (u32, [u64; 3]);
 
-/// A plan entry as it is lent: code, then its three identifiers (scope: plan).
+/// A plan entry as far as the text says it: code, then its three identifiers, the first four numbers of scope: plan.
 pub type Entry = [u32; 4];
 
 /// The classes of cells that have an identifier and a list.

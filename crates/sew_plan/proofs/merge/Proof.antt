@@ -1,6 +1,7 @@
 -- `plan::merge` meets its contract: out is what `lesser` gives. Assumes nothing.
 use Prim.Native.Nat.{ℕ}
 use mathlib.Core.Path.{_≡_}
+use Rattle.cell_steps.specs.declared.cells.Cell.{Cell}
 use Rattle.cell_steps.specs.declared.cells.Class.{Class}
 use Rattle.sew_plan.specs.declared.Kind.the-variants.{Merge}
 use Rattle.sew_plan.specs.declared.Entry.{Entry}
@@ -9,8 +10,9 @@ use borrow.Author.Needs.{needs}
 use Rattle.sew_plan.proofs.merge.Statement.{statement}
 use Rattle.sew_plan.proofs.merge.Tie as tie
 
-as-merge : (cells : Class) (left right n : ℕ) → n ≡ lesserOf left right
-    → _≡_ {A = Entry} (record { class = cells; kind = Merge; a = n; b = left; c = right }) (mergeOf cells left right)
+as-merge : (cells : Class) (left right : Cell) (n : ℕ) → n ≡ lesserOf (left .least) (right .least)
+    → _≡_ {A = Entry} (record { class = cells; kind = Merge; a = n; b = left .least; c = right .least; left = left .count; right = right .count })
+    (mergeOf cells left right)
 unfolding mergeOf
 as-merge cells left right n e = rw e
 

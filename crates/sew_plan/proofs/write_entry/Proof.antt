@@ -1,4 +1,4 @@
--- `plan::write_entry` meets its contract: its four stores are the entry's numbers, one behind another. Assumes nothing.
+-- `plan::write_entry` meets its contract: its six stores are the entry's numbers, one behind another. Assumes nothing.
 use native.Mathlib.Omega.{arith}
 use lib.ListN.{length-set}
 use Rattle.sew_plan.proofs.PlanLaws.{entry-stored}
@@ -45,6 +45,24 @@ mul-plan-4 c = search needs
 slice-write-plan-4 : tie.Need-slice-write-plan-4
 slice-write-plan-4 c = simp length-set (omega arith)
 
+add-plan-4 : tie.Need-add-plan-4
+add-plan-4 c = search needs
+
+mul-plan-5 : tie.Need-mul-plan-5
+mul-plan-5 c = search needs
+
+slice-write-plan-5 : tie.Need-slice-write-plan-5
+slice-write-plan-5 c = simp length-set (omega arith)
+
+add-plan-5 : tie.Need-add-plan-5
+add-plan-5 c = search needs
+
+mul-plan-6 : tie.Need-mul-plan-6
+mul-plan-6 c = search needs
+
+slice-write-plan-6 : tie.Need-slice-write-plan-6
+slice-write-plan-6 c = simp length-set (omega arith)
+
 same-length : tie.Need-same-length
 same-length c = search needs
 
@@ -70,5 +88,11 @@ write-entry-spec =
     add-plan-3
     mul-plan-4
     slice-write-plan-4
+    add-plan-4
+    mul-plan-5
+    slice-write-plan-5
+    add-plan-5
+    mul-plan-6
+    slice-write-plan-6
     same-length
     returns)

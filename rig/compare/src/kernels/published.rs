@@ -2,11 +2,12 @@
 
 use std::mem::take;
 
-use oracle::Oracle;
+use oracle::{Entry, Oracle};
 
-use crate::kernel::{Answer, Call, Cell, Kernel, Loans, Orbit};
+use crate::kernel::{Answer, Call, Cell, ENTRY_NUMBERS, Kernel, Loans, Orbit};
 
-/// The published Rust, with the scope's plan room put on top.
+/// The published Rust, with the scope's plan room put on top, and sizes of cells, of which it says nothing: they are
+/// counted here, in its own orbits of the darts that it names.
 #[derive(Default)]
 pub struct Published {
     oracle: Option<Oracle>,
@@ -46,17 +47,38 @@ impl Published {
         }
     }
 
-    /// A sew's answer: its plan written if it fits; else refusal 11, and nothing changed.
-    fn planned(&mut self, (answer, entries): (Answer, Vec<[u32; 4]>), loans: &mut Loans) -> Answer {
-        if entries.len() > loans.plan.len() / 4 {
+    /// A sew's answer: its plan written if it fits, with sizes; else refusal 11, and nothing changed.
+    fn planned(&mut self, (answer, entries): (Answer, Vec<Entry>), loans: &mut Loans) -> Answer {
+        if entries.len() > loans.plan.len() / ENTRY_NUMBERS {
             self.held.clear();
             return (11, [entries.len() as u64, 0, 0]);
         }
+        let before = loans.rows.clone();
         self.changed(&mut loans.rows);
-        for (place, entry) in loans.plan.chunks_exact_mut(4).zip(&entries) {
-            place.copy_from_slice(entry);
+        let sizes = self.sizes(&entries, &before, &loans.rows, &loans.flags);
+        for ((place, entry), sizes) in loans.plan.chunks_exact_mut(ENTRY_NUMBERS).zip(&entries).zip(sizes) {
+            let (said, counted) = place.split_at_mut(entry.len());
+            said.copy_from_slice(entry);
+            counted.copy_from_slice(&sizes);
         }
         answer
+    }
+
+    /// The sizes of the left and the right cell of each entry of one sew or unsew. Those of merges are counted in the
+    /// rows before, those of splits in the rows after. A face split has a pair for every two darts that have lost
+    /// their beta 3 image.
+    fn sizes(&mut self, entries: &[Entry], before: &[u32], after: &[u32], flags: &[u8]) -> Vec<[u32; 2]> {
+        let Some(first) = entries.first() else { return Vec::new() };
+        let oracle = self.with(if first[0] < 11 { before } else { after }, flags);
+        let parted = before.iter().zip(after).skip(3).step_by(4).filter(|(before, after)| before != after).count();
+        let of = |&[code, a, b, c]: &Entry| match code {
+            1 => [b, c].map(|d| size(oracle, Cell::Vertex, d)),
+            2 => [b, c].map(|d| size(oracle, Cell::Edge, d)),
+            11 => [a, b].map(|d| size(oracle, Cell::Vertex, d)),
+            12 => [a, b].map(|d| size(oracle, Cell::Edge, d)),
+            _ => [parted as u32 / 2; 2],
+        };
+        entries.iter().map(of).collect()
     }
 
     /// Reads, links and unlinks.
@@ -114,24 +136,27 @@ impl Published {
         let commands = take(&mut loans.commands);
         let mut written = 0;
         for (numbers, place) in commands.chunks_exact(3).zip(output.chunks_exact_mut(5)) {
-            let rest = &mut plan[written..];
+            let rest = &mut plan[ENTRY_NUMBERS * written..];
             loans.plan.clear();
             loans.plan.extend_from_slice(rest);
             let (number, [a, b, c]) = self.command([numbers[0], numbers[1], numbers[2]], loans);
             rest.copy_from_slice(&loans.plan);
             let five = if number == 0 { [0, a, 0, 0, b] } else { [u64::from(number), a, b, c, 0] };
             place.copy_from_slice(&five.map(|word| word as u32));
-            written += 4 * five[4] as usize;
+            written += five[4] as usize;
         }
         (loans.output, loans.plan, loans.commands) = (output, plan, commands);
-        (0, [0, written as u64 / 4, 0])
+        (0, [0, written as u64, 0])
     }
 
     /// Identifiers, orbits and lists.
     fn on_cells(&mut self, call: &Call, loans: &mut Loans) -> Option<Answer> {
         let oracle = self.with(&loans.rows, &loans.flags);
         let (answer, list) = match *call {
-            Call::Identifier { cell, d } => return Some(oracle.identifier(of_oracle(cell), d)),
+            Call::Identifier { cell, d } => {
+                let (number, [name, ..]) = oracle.identifier(of_oracle(cell), d);
+                return Some((number, [name, u64::from(size(oracle, cell, d)), 0]));
+            }
             Call::Orbit { ref orbit, d } => oracle.orbit(orbit_of_oracle(orbit), d),
             Call::List { cell } => oracle.list(of_oracle(cell)),
             _ => return None,
@@ -139,6 +164,19 @@ impl Published {
         loans.output[..list.len()].copy_from_slice(&list);
         Some(answer)
     }
+}
+
+/// How many darts the cell of `d` has, by the length of its orbit: none for the null dart. Those of a face, which
+/// nobody asks for, are not counted.
+fn size(oracle: &Oracle, cell: Cell, d: u32) -> u32 {
+    let orbit = match cell {
+        _ if d == 0 => return 0,
+        Cell::Vertex => oracle::Orbit::Vertex,
+        Cell::Edge => oracle::Orbit::Edge,
+        Cell::Face => return 0,
+        Cell::Volume => oracle::Orbit::Volume,
+    };
+    oracle.orbit(orbit, d).1.len() as u32
 }
 
 /// The oracle's name of a class of cells.

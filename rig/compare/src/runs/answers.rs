@@ -5,7 +5,7 @@
 use super::calls::{any_call, any_number, every_call};
 use super::lists::{lend, some_list};
 use super::loans::{fill_flags, put_unused};
-use crate::kernel::{Answer, Call, Kernel, Loans};
+use crate::kernel::{Answer, Call, ENTRY_NUMBERS, Kernel, Loans};
 use crate::kernels::{Model, Published};
 use crate::maps;
 use crate::random::Random;
@@ -20,8 +20,9 @@ fn line(call: &Call, note: &str, before: &[u32], (number, [a, b, c]): Answer, lo
     let (output, plan) = match call {
         _ if number != 0 => (0, 0),
         Call::Orbit { .. } | Call::List { .. } => (b as usize, 0),
-        Call::Commands => (loans.commands.len() / 3 * 5, 4 * b as usize),
-        _ => (0, 4 * b as usize),
+        Call::Commands => (loans.commands.len() / 3 * 5, ENTRY_NUMBERS * b as usize),
+        call if call.plans() => (0, ENTRY_NUMBERS * b as usize),
+        _ => (0, 0),
     };
     let written = words(&[&loans.output[..output], &loans.plan[..plan]].concat());
     let numbers = if *call == Call::Commands { loans.commands.clone() } else { call.numbers() };
@@ -190,7 +191,8 @@ pub fn listed(count: usize, seed: u64, mut each: impl FnMut(String)) {
         let mut loans = some_loans(&mut random);
         let points = *random.pick(&[0, 0, 0, 1, 2]);
         put_points(&mut loans, points);
-        let room = if random.percent(40) { 64 } else { random.below(20) };
+        // ample, or up to four entries and some words that are no whole one
+        let room = if random.percent(40) { 64 } else { ENTRY_NUMBERS * random.below(20) / 4 };
         loans.plan.resize(room, 0);
         let before = loans.rows.clone();
         let kernel: &mut dyn Kernel =

@@ -4,7 +4,7 @@ use super::calls::CELLS;
 use super::images::reader_loans;
 use super::loans::take_out;
 use crate::check::Comparison;
-use crate::kernel::{Call, Cell, Loans, Orbit};
+use crate::kernel::{Call, Cell, ENTRY_NUMBERS, Loans, Orbit};
 use crate::maps;
 use crate::random::Random;
 
@@ -14,7 +14,7 @@ pub fn largest(comparison: &mut Comparison) {
     for (length, flag) in [(4_194_304, 0), (4_194_304, 255), (4_194_308, 0), (4_194_305, 0), (4_194_303, 0)] {
         comparison.maps += 1;
         let mut loans = Loans::around(vec![0; length]);
-        loans.plan.truncate(16);
+        loans.plan.truncate(4 * ENTRY_NUMBERS);
         let last = (length / 4 - 1) as u32;
         (loans.flags[0], loans.flags[last as usize]) = (0, flag);
         loans.commands = vec![2, 1, last, 6, last + 1, 0, 5, last, 2, 9, last, last, 10, last, 0, 4, last, 1];
@@ -65,7 +65,7 @@ fn rings(comparison: &mut Comparison) {
     }
     comparison.maps += 1;
     let mut loans = Loans::around(rows);
-    loans.plan.truncate(16);
+    loans.plan.truncate(4 * ENTRY_NUMBERS);
     for call in [Call::Identifier { cell: Cell::Face, d: half }, Call::Orbit { orbit: Orbit::Face, d: 3 }] {
         comparison.check(&call, &loans);
     }
@@ -125,7 +125,7 @@ fn grids(comparison: &mut Comparison) {
 fn stored(comparison: &mut Comparison) {
     let n = 1_048_576;
     let mut loans = Loans::around(vec![0; 4 * n]);
-    loans.plan.truncate(16);
+    loans.plan.truncate(4 * ENTRY_NUMBERS);
     loans.flags[0] = 0;
     for l in 1..n {
         let r = 1 + l % (n - 1);
@@ -140,7 +140,7 @@ fn stored(comparison: &mut Comparison) {
         loans.bytes.push(0xA5);
         let (_, after) = comparison.check(&Call::WriteImage, &loans);
         let mut back = reader_loans(n);
-        back.plan.truncate(16);
+        back.plan.truncate(4 * ENTRY_NUMBERS);
         back.bytes.clone_from(&after.bytes);
         comparison.check(&Call::ReadImage, &back);
     }

@@ -3,7 +3,7 @@
 use super::calls::{any_number, some_call};
 use super::loans::{fill_vertices, put_unused, resize, spoil_flag, take_out};
 use crate::check::Comparison;
-use crate::kernel::{Answer, Call, Kernel, Loans};
+use crate::kernel::{Answer, Call, ENTRY_NUMBERS, Kernel, Loans};
 use crate::kernels::Model;
 use crate::maps;
 use crate::random::Random;
@@ -79,7 +79,7 @@ fn with_rooms(comparison: &mut Comparison, tally: &mut Tally, random: &mut Rando
     let mut tight = loans.clone();
     for room in rooms {
         tight.plan.clone_from(&loans.plan);
-        tight.plan.truncate(4 * room + random.below(4));
+        tight.plan.truncate(ENTRY_NUMBERS * room + random.below(ENTRY_NUMBERS));
         check(comparison, tally, &tight);
     }
 }
@@ -128,7 +128,8 @@ fn every_list(
             let (answer, _) = check(comparison, tally, loans);
             if answer.1[1] > 0 {
                 let mut tight = loans.clone();
-                tight.plan.truncate(4 * random.below(answer.1[1] as usize) + random.below(4));
+                let room = random.below(answer.1[1] as usize);
+                tight.plan.truncate(ENTRY_NUMBERS * room + random.below(ENTRY_NUMBERS));
                 check(comparison, tally, &tight);
             }
         }
@@ -260,7 +261,8 @@ pub fn lists(comparison: &mut Comparison, most: usize, rounds: usize, seed: u64)
         let list = some_list(&mut random, &loans, commands);
         lend(&mut loans, &list);
         // as many entries as there can be, so that no room is short yet
-        loans.plan.resize(4 * (list.len() * (3 * loans.rows.len() / 4 + 1)).min(4000) + 3, 0xC0DE_0000);
+        let entries = (list.len() * (3 * loans.rows.len() / 4 + 1)).min(4000);
+        loans.plan.resize(ENTRY_NUMBERS * entries + 5, 0xC0DE_0000);
         with_rooms(comparison, &mut tally, &mut random, &loans);
         for _ in 0..random.below(4) {
             spoil(&mut random, &mut loans);

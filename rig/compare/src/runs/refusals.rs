@@ -3,7 +3,7 @@
 use super::calls::{any_call, any_number};
 use super::loans::{fill_flags, fill_vertices, resize, spoil_flag};
 use crate::check::Comparison;
-use crate::kernel::Loans;
+use crate::kernel::{ENTRY_NUMBERS, Loans};
 use crate::maps;
 use crate::random::Random;
 
@@ -29,7 +29,7 @@ pub fn refusals(comparison: &mut Comparison, rounds: usize, seed: u64) {
                 5 => resize(&mut random, &mut loans.vertex_marks, 1),
                 6 => resize(&mut random, &mut loans.coordinates, 1.0),
                 7 => resize(&mut random, &mut loans.plan, 9),
-                8 => loans.plan.truncate(random.below(9)),
+                8 => loans.plan.truncate(random.below(2 * ENTRY_NUMBERS + 1)),
                 9 | 10 => spoil_flag(&mut random, &mut loans),
                 _ => {
                     if !loans.rows.is_empty() {

@@ -1,7 +1,7 @@
 //! The faults of lists of commands.
 
 use super::found;
-use compare::{Answer, Call, Kernel, Loans, Model};
+use compare::{Answer, Call, ENTRY_NUMBERS, Kernel, Loans, Model};
 
 /// What is done to the five numbers of the answer of a command.
 type Spoil = fn([u32; 3], &mut [u32]);
@@ -46,7 +46,7 @@ impl List {
         let mut ample = loans.clone();
         ample.plan.resize(4000, 0);
         self.command(numbers, &mut ample);
-        let whole = loans.plan.len() / 4 * 4;
+        let whole = loans.plan.len() / ENTRY_NUMBERS * ENTRY_NUMBERS;
         loans.plan[..whole].copy_from_slice(&ample.plan[..whole]);
     }
 
@@ -56,7 +56,7 @@ impl List {
         let (commands, mut written) = (loans.commands.clone(), 0);
         for (at, numbers) in commands.chunks_exact(3).enumerate() {
             let numbers = [numbers[0], numbers[1], numbers[2]];
-            let from = if self.plan_from_its_start { 0 } else { 4 * written };
+            let from = if self.plan_from_its_start { 0 } else { ENTRY_NUMBERS * written };
             loans.plan = plan[from..].to_vec();
             let before = loans.rows.clone();
             if self.rows_of_the_start {
@@ -269,7 +269,7 @@ fn output_behind_the_last_answer_touched() {
 #[test]
 fn plan_behind_the_last_entry_touched() {
     whole(|_, loans, answer| {
-        if let (0, Some(behind)) = (answer.0, loans.plan.get_mut(4 * answer.1[1] as usize)) {
+        if let (0, Some(behind)) = (answer.0, loans.plan.get_mut(ENTRY_NUMBERS * answer.1[1] as usize)) {
             *behind = 0;
         }
         answer

@@ -20,13 +20,24 @@ macro_rules! identifiers {
 }
 
 identifiers! {
-    /// The least dart of the vertex of `d`.
+    /// The least dart of the vertex of `d`, and as the count how many darts it has.
+    ///
+    /// ```
+    /// # #[cfg(not(feature = "linked"))] extern crate c_names;
+    /// use inkcapper::{Answer, slices};
+    /// let rows = [0, 0, 0, 0, 0, 2, 3, 0, 1, 0, 0, 0, 0, 0, 1, 0]; // 2 behind 1 by beta 1, 3 beside it by beta 2
+    /// let (mut marks, mut queue, flags) = ([0; 4], [0; 4], [0; 4]);
+    /// let mut vertex = |d| slices::vertex_id(&rows, &mut marks, &mut queue, &flags, d);
+    /// assert_eq!(vertex(3), Answer::Done { first: 2, count: 2 });
+    /// assert_eq!(vertex(1), Answer::Done { first: 1, count: 1 });
+    /// assert_eq!(vertex(0), Answer::Done { first: 0, count: 0 });
+    /// ```
     vertex_id, inkcapper_vertex_id;
-    /// The least dart of the edge of `d`.
+    /// The least dart of the edge of `d`, and as the count how many darts it has.
     edge_id, inkcapper_edge_id;
-    /// The face of `d` as honeycomb's `face_id` names it.
+    /// The face of `d` as honeycomb's `face_id` names it; its darts are not counted.
     face_id, inkcapper_face_id;
-    /// The least dart of the volume of `d`.
+    /// The least dart of the volume of `d`, and as the count how many darts it has.
     volume_id, inkcapper_volume_id;
 }
 

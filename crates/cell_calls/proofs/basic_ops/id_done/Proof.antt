@@ -4,6 +4,7 @@ use Prim.Native.Nat.{ℕ}
 use Rattle.map_betas.specs.declared.error.Answer.the-variants.{Done}
 use Rattle.map_betas.specs.Betas.{darts}
 use Rattle.map_betas.proofs.AnswerLaws.{outcome-is}
+use Rattle.cell_steps.specs.declared.cells.Cell.{Cell}
 use Rattle.cell_steps.proofs.ScratchLaws.{wiped-n, wiped-clean, wiped-lent}
 use borrow.Author.Needs.{needs}
 use Rattle.cell_calls.proofs.basic_ops.id_done.Statement.{statement}
@@ -40,6 +41,9 @@ identifier-requires c κs =
     let entry = at-wipe-marks .before .before .before .before .before in
     (entry .pre .0, entry .pre .3, wiped-clean _ _ _ _ _ (at-wipe-marks .wipe-marks .ensures) (at-wipe-queue .wipe-queue .ensures))
 
+cast-t8 : tie.Need-cast-t8
+cast-t8 c = search needs
+
 same-length : tie.Need-same-length
 same-length c = search needs
 
@@ -48,7 +52,7 @@ same-length-2 c = search needs
 
 returns : tie.Need-returns
 returns c =
-    let at-identifier = c .before .before .before .before in
+    let at-identifier = c .before .before .before .before .before in
     let at-wipe-queue = at-identifier .before .before .before .before .before in
     let at-wipe-marks = at-wipe-queue .before .before .before .before in
     let entry = at-wipe-marks .before .before .before .before .before in
@@ -56,7 +60,7 @@ returns c =
     let i = at-identifier .identifier .ensures in
     let m = wiped-lent n (entry .args .marks .now) (at-wipe-marks .wipe-marks .last .0) (at-wipe-marks .wipe-marks .ensures) _ (i .0) in
     let q = wiped-lent n (entry .args .queue .now) (at-wipe-queue .wipe-queue .last .0) (at-wipe-queue .wipe-queue .ensures) _ (i .1) in
-    outcome-is (ap (λ (id : ℕ). Done id 0) (i .2)) (λ t. (m t, q t))
+    outcome-is (ap (λ (c : Cell). Done (c .least) (c .count)) (i .2)) (λ t. (m t, q t))
 
 pub id-done-spec : {M : Type 1} → statement M
 id-done-spec =
@@ -69,6 +73,7 @@ id-done-spec =
     slice-relend-prefix-identifier-2
     slice-aggregate-identifier-2
     identifier-requires
+    cast-t8
     same-length
     same-length-2
     returns)

@@ -5,10 +5,11 @@ use Prim.Native.Nat.{ℕ, _≤_}
 use native.Mathlib.Omega.{arith}
 use lib.ListN.{length, take, replicate}
 use lib.Seq.{length-take-le}
+use Rattle.cell_steps.specs.Search.{orbit}
 use Rattle.cell_steps.specs.Idents.{least}
 use Rattle.cell_steps.proofs.StepLaws.{steps-are, codes-fit, class-steps, policy-by}
 use Rattle.cell_steps.proofs.OrbitLaws.{orbit-some}
-use Rattle.cell_steps.proofs.IdentLaws.{cell-is}
+use Rattle.cell_steps.proofs.SizeLaws.{size-few, cell-is}
 use Rattle.cell_steps.proofs.TurnLaws.{listed-take, listed-room, listed-drop}
 use Rattle.cell_steps.proofs.ScratchLaws.{zero-split, clean-scratch}
 use borrow.Author.Needs.{needs}
@@ -62,6 +63,20 @@ wipe-queue-requires c κs =
     let at-orbit-core = c .before .before .before .before .before .before .before in
     listed-room (at-orbit-core .orbit-core .ensures .1)
 
+-- no cell has more darts than the map
+cast-count : tie.Need-cast-count
+cast-count c =
+    let at-orbit-core = c .before .before .before .before .before .before .before .before .before .before in
+    let at-steps-of = at-orbit-core .before .before .before .before .before in
+    let at-policy-of = at-steps-of .before in
+    let entry = at-policy-of .before .before .before .before in
+    let class = entry .args .class in
+    let e = class-steps class (at-policy-of .policy-of .result) (at-policy-of .policy-of .ensures) _
+    (codes-fit (at-policy-of .policy-of .result) _ (at-steps-of .steps-of .ensures) .1) in
+    let l = ap (λ (t : List ℕ). length (orbit (entry .args .rows .now) t (entry .args .d))) e in
+    let few = size-few class (entry .args .rows .now) (entry .pre .0) _ (entry .pre .1) in
+    omega (arith, at-orbit-core .orbit-core .ensures .1 .count, l, few, entry .pre .0 .sized .few)
+
 same-length : tie.Need-same-length
 same-length c = search needs
 
@@ -80,10 +95,13 @@ returns c =
     let n = at-orbit-core .orbit-core .result in
     let queue = entry .args .queue .now in
     let e : n ≤ length queue = omega (arith, listed-room o, at-orbit-core .orbit-core .kept .1 .1 .1 .0) in (
-      at-orbit-core .orbit-core .ensures .0,
-      at-wipe-queue .wipe-queue .ensures ∙ ap (λ (t : List ℕ). replicate n 0 ++ t) (listed-drop o) ∙ zero-split queue n (entry .pre .2 .queue-0) e,
-      cell-is (entry .args .class) _ _ _ _ _ (class-steps (entry .args .class) (at-policy-of .policy-of .result) (at-policy-of .policy-of .ensures) _
+      cell-is (entry .args .class) _ _ _ _ _ (omega (arith, entry .pre .3))
+          (class-steps (entry .args .class) (at-policy-of .policy-of .result) (at-policy-of .policy-of .ensures) _
           (codes-fit (at-policy-of .policy-of .result) _ (at-steps-of .steps-of .ensures) .1)) (at-least .least .ensures ∙ ap least (listed-take o)) (o .count),
+      (
+        at-orbit-core .orbit-core .ensures .0,
+        at-wipe-queue .wipe-queue .ensures ∙ ap (λ (t : List ℕ). replicate n 0 ++ t) (listed-drop o) ∙ zero-split queue n (entry .pre .2 .queue-0) e,
+      ),
     )
 
 pub search-core-spec : {M : Type 1} → statement M
@@ -97,6 +115,7 @@ search-core-spec =
     orbit-core-requires
     least-requires
     wipe-queue-requires
+    cast-count
     same-length
     same-length-2
     returns)

@@ -16,13 +16,13 @@ returns c =
     let at-walk-arm = c .before .before in
     let entry = at-walk-arm .before .before in
     let a = at-walk-arm .walk-arm .ensures in
-    round-cell (entry .args .rows .now) (entry .pre .0) _ (entry .pre .1) _ _ _ (a .0) (a .1) (a .2) (omega (arith, c .if1 .taken))
+    round-cell (entry .args .rows .now) (entry .pre .0) _ (entry .pre .1) (entry .pre .2) _ _ _ (a .0) (a .1) (a .2) (omega (arith, c .if1 .taken))
 
 walk-arm-requires-2 : tie.Need-walk-arm-requires-2
 walk-arm-requires-2 c κs =
     let at-walk-arm = c .before .before in
     let entry = at-walk-arm .before .before in
-    let few = arm-few (entry .args .rows .now) (entry .pre .0) _ (entry .pre .1) in
+    let few = arm-few (entry .args .rows .now) (entry .pre .0) _ (entry .pre .1) (entry .pre .2) in
     (entry .pre .0, entry .pre .1, List·Memᴰ·tail (List·Memᴰ·head refl), omega (arith, at-walk-arm .walk-arm .ensures .1))
 
 returns-2 : tie.Need-returns-2
@@ -32,7 +32,8 @@ returns-2 c =
     let entry = at-walk-arm .before .before in
     let a = at-walk-arm .walk-arm .ensures in
     let b = c .walk-arm2 .ensures in
-    open-cell (entry .args .rows .now) (entry .pre .0) _ (entry .pre .1) _ _ _ _ _ (a .0) (a .1) (a .2) (omega (arith, at-if1 .if1 .left)) (b .0) (b .1)
+    open-cell (entry .args .rows .now) (entry .pre .0) _ (entry .pre .1) (entry .pre .2) _ _ _ _ _ (a .0) (a .1) (a .2)
+    (omega (arith, at-if1 .if1 .left)) (b .0) (b .1)
 
 pub edge-core-spec : {M : Type 1} → statement M
 edge-core-spec = tie.close (tie.spec walk-arm-requires returns walk-arm-requires-2 returns-2)

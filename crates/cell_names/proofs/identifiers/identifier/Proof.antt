@@ -1,7 +1,7 @@
--- `identifiers::identifier` meets its contract: the face identifier, or the least dart. Assumes nothing.
+-- `identifiers::identifier` meets its contract: the face identifier, or the cell by its core. Assumes nothing.
 use mathlib.Core.Path.{sym, _∙_}
 use Rattle.cell_steps.proofs.ScratchLaws.{clean-scratch}
-use Rattle.cell_names.proofs.CallLaws.{ident-face, ident-least}
+use Rattle.cell_names.proofs.CallLaws.{ident-face, ident-cell}
 use borrow.Author.Needs.{needs}
 use Rattle.cell_names.proofs.identifiers.identifier.Statement.{statement}
 use Rattle.cell_names.proofs.identifiers.identifier.Tie as tie
@@ -27,10 +27,10 @@ returns c =
     let at-is-face = at-if1 .before in
     let entry = at-is-face .before .before .before .before in
     let v = at-face-core .face-core .ensures in
-    (v .0, v .1, v .2 ∙ ident-face (entry .args .rows .now) (entry .args .class) _ (sym (at-is-face .is-face .ensures) ∙ at-if1 .if1 .taken))
+    (v .0, v .1, ident-face (entry .args .rows .now) (entry .args .class) _ _ (sym (at-is-face .is-face .ensures) ∙ at-if1 .if1 .taken) (v .2))
 
-name-core-requires : tie.Need-name-core-requires
-name-core-requires c κs = search needs
+cell-core-requires : tie.Need-cell-core-requires
+cell-core-requires c κs = search needs
 
 same-length-3 : tie.Need-same-length-3
 same-length-3 c = search needs
@@ -40,12 +40,12 @@ same-length-4 c = search needs
 
 returns-2 : tie.Need-returns-2
 returns-2 c =
-    let at-name-core = c .before .before .before .before in
-    let at-if1 = at-name-core .before .before .before in
+    let at-cell-core = c .before .before .before .before in
+    let at-if1 = at-cell-core .before .before .before in
     let at-is-face = at-if1 .before in
     let entry = at-is-face .before .before .before .before in
-    let v = at-name-core .name-core .ensures in
-    (v .1 .0, v .1 .1, v .0 ∙ ident-least (entry .args .rows .now) (entry .args .class) _ (sym (at-is-face .is-face .ensures) ∙ at-if1 .if1 .left))
+    let v = at-cell-core .cell-core .ensures in
+    (v .1 .0, v .1 .1, v .0 ∙ ident-cell (entry .args .rows .now) (entry .args .class) _ (sym (at-is-face .is-face .ensures) ∙ at-if1 .if1 .left))
 
 pub identifier-spec : {M : Type 1} → statement M
 identifier-spec =
@@ -56,7 +56,7 @@ identifier-spec =
     same-length
     same-length-2
     returns
-    name-core-requires
+    cell-core-requires
     same-length-3
     same-length-4
     returns-2)

@@ -16,20 +16,20 @@ beta-at-requires-2 c κs = search needs
 larger-of-requires : tie.Need-larger-of-requires
 larger-of-requires c κs = search needs
 
-name-core-requires : tie.Need-name-core-requires
-name-core-requires c κs = search needs
+cell-core-requires : tie.Need-cell-core-requires
+cell-core-requires c κs = search needs
 
-name-core-requires-2 : tie.Need-name-core-requires-2
-name-core-requires-2 c κs =
-    let at-name-core = c .before .before .before .before .before .before in
-    let entry = at-name-core .before .before .before .before .before .before .before .before .before in
-    (entry .pre .0, entry .pre .1, clean-same _ _ _ _ _ (entry .pre .2) (at-name-core .name-core .ensures .1 .0) (at-name-core .name-core .ensures .1 .1))
+cell-core-requires-2 : tie.Need-cell-core-requires-2
+cell-core-requires-2 c κs =
+    let at-cell-core = c .before .before .before .before .before .before in
+    let entry = at-cell-core .before .before .before .before .before .before .before .before .before in
+    (entry .pre .0, entry .pre .1, clean-same _ _ _ _ _ (entry .pre .2) (at-cell-core .cell-core .ensures .1 .0) (at-cell-core .cell-core .ensures .1 .1))
 
-name-core-requires-3 : tie.Need-name-core-requires-3
-name-core-requires-3 c κs =
-    let at-name-core2 = c .before .before .before .before .before .before in
-    let at-name-core = at-name-core2 .before .before .before .before .before .before .before in
-    let at-larger-of = at-name-core .before .before .before in
+cell-core-requires-3 : tie.Need-cell-core-requires-3
+cell-core-requires-3 c κs =
+    let at-cell-core2 = c .before .before .before .before .before .before in
+    let at-cell-core = at-cell-core2 .before .before .before .before .before .before .before in
+    let at-larger-of = at-cell-core .before .before .before in
     let at-beta-at2 = at-larger-of .before in
     let at-beta-at = at-beta-at2 .before in
     let entry = at-beta-at .before .before .before .before in (
@@ -41,8 +41,8 @@ name-core-requires-3 c κs =
             (at-beta-at2 .beta-at2 .result) (omega (arith, at-beta-at .beta-at .ensures, entry .pre .0 .below 1 (entry .args .d)))
             (omega (arith, at-beta-at2 .beta-at2 .ensures, entry .pre .0 .below 3 (entry .args .d))),
       ),
-      clean-same _ _ _ _ _ (entry .pre .2) (at-name-core2 .name-core2 .ensures .1 .0 ∙ at-name-core .name-core .ensures .1 .0)
-          (at-name-core2 .name-core2 .ensures .1 .1 ∙ at-name-core .name-core .ensures .1 .1),
+      clean-same _ _ _ _ _ (entry .pre .2) (at-cell-core2 .cell-core2 .ensures .1 .0 ∙ at-cell-core .cell-core .ensures .1 .0)
+          (at-cell-core2 .cell-core2 .ensures .1 .1 ∙ at-cell-core .cell-core .ensures .1 .1),
     )
 
 same-length : tie.Need-same-length
@@ -53,17 +53,17 @@ same-length-2 c = search needs
 
 returns : tie.Need-returns
 returns c =
-    let at-name-core3 = c .before .before .before .before in
-    let at-name-core2 = at-name-core3 .before .before .before .before .before .before .before in
-    let at-name-core = at-name-core2 .before .before .before .before .before .before .before in
-    let at-larger-of = at-name-core .before .before .before in
+    let at-cell-core3 = c .before .before .before .before in
+    let at-cell-core2 = at-cell-core3 .before .before .before .before .before .before .before in
+    let at-cell-core = at-cell-core2 .before .before .before .before .before .before .before in
+    let at-larger-of = at-cell-core .before .before .before in
     let at-beta-at2 = at-larger-of .before in
     let at-beta-at = at-beta-at2 .before in (
       side-is _ _ _ _ _ _ _ _ (at-beta-at .beta-at .ensures) (at-beta-at2 .beta-at2 .ensures) (at-larger-of .larger-of .ensures)
-          (at-name-core .name-core .ensures .0) (at-name-core2 .name-core2 .ensures .0) (at-name-core3 .name-core3 .ensures .0),
+          (at-cell-core .cell-core .ensures .0) (at-cell-core2 .cell-core2 .ensures .0) (at-cell-core3 .cell-core3 .ensures .0),
       (
-        at-name-core3 .name-core3 .ensures .1 .0 ∙ at-name-core2 .name-core2 .ensures .1 .0 ∙ at-name-core .name-core .ensures .1 .0,
-        at-name-core3 .name-core3 .ensures .1 .1 ∙ at-name-core2 .name-core2 .ensures .1 .1 ∙ at-name-core .name-core .ensures .1 .1,
+        at-cell-core3 .cell-core3 .ensures .1 .0 ∙ at-cell-core2 .cell-core2 .ensures .1 .0 ∙ at-cell-core .cell-core .ensures .1 .0,
+        at-cell-core3 .cell-core3 .ensures .1 .1 ∙ at-cell-core2 .cell-core2 .ensures .1 .1 ∙ at-cell-core .cell-core .ensures .1 .1,
       ),
     )
 
@@ -74,9 +74,9 @@ side-at-spec =
     beta-at-requires
     beta-at-requires-2
     larger-of-requires
-    name-core-requires
-    name-core-requires-2
-    name-core-requires-3
+    cell-core-requires
+    cell-core-requires-2
+    cell-core-requires-3
     same-length
     same-length-2
     returns)

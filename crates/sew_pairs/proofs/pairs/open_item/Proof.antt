@@ -16,8 +16,8 @@ returns c =
 far-of-requires : tie.Need-far-of-requires
 far-of-requires c κs = search needs
 
-vertex-item-requires : tie.Need-vertex-item-requires
-vertex-item-requires c κs = search needs
+split-item-requires : tie.Need-split-item-requires
+split-item-requires c κs = search needs
 
 same-length : tie.Need-same-length
 same-length c = search needs
@@ -27,13 +27,13 @@ same-length-2 c = search needs
 
 returns-2 : tie.Need-returns-2
 returns-2 c =
-    let at-vertex-item = c .before .before .before .before in
-    let at-far-of = at-vertex-item .before .before .before in
+    let at-split-item = c .before .before .before .before in
+    let at-far-of = at-split-item .before .before .before in
     let at-if1 = at-far-of .before in
     let at-beta-at = at-if1 .before in (
       open-some _ _ _ (at-beta-at .beta-at .ensures) _ _ _ (at-if1 .if1 .left) (at-far-of .far-of .ensures .0)
-          (at-vertex-item .vertex-item .ensures .0),
-      at-vertex-item .vertex-item .ensures .1,
+          (at-split-item .split-item .ensures .0),
+      at-split-item .split-item .ensures .1,
     )
 
 pub open-item-spec : {M : Type 1} → statement M
@@ -43,7 +43,7 @@ open-item-spec =
     beta-at-requires
     returns
     far-of-requires
-    vertex-item-requires
+    split-item-requires
     same-length
     same-length-2
     returns-2)

@@ -1,7 +1,8 @@
--- `settling::wanted` meets its contract: an exact tally counts the entries. Assumes nothing.
+-- `settling::wanted` meets its contract: a tally of splits counts the entries but one. Assumes nothing.
 use native.Mathlib.Omega.{arith}
-use mathlib.Core.Path.{refl}
-use Rattle.sew_tallies.proofs.TallyLaws.{entries-most, entries-count}
+use mathlib.Core.Path.{refl, sym}
+use native.Mathlib.Nat.{le-of-eq}
+use Rattle.sew_tallies.proofs.TallyLaws.{entries-count}
 use borrow.Author.Needs.{needs}
 use Rattle.sew_settling.proofs.settling.wanted.Statement.{statement}
 use Rattle.sew_settling.proofs.settling.wanted.Tie as tie
@@ -16,6 +17,13 @@ tally-pairs-requires c κs =
     let entry = c .before .before .before .before .before .before in
     (entry .pre .0, entry .pre .1, entry .pre .2, entry .pre .3)
 
+-- as many entries as there can be fit a number
+add-result : tie.Need-add-result
+add-result c =
+    let at-tally-pairs = c .before .before .before .before .before in
+    let entry = at-tally-pairs .before .before .before .before .before .before .before in
+    omega (arith, entries-count _ _ _ _ _ (at-tally-pairs .tally-pairs .ensures .0) refl, entry .pre .4, entry .pre .5)
+
 same-length : tie.Need-same-length
 same-length c = search needs
 
@@ -24,8 +32,9 @@ same-length-2 c = search needs
 
 returns-2 : tie.Need-returns-2
 returns-2 c =
-    let at-tally-pairs = c .before .before .before .before in (
-      (entries-most _ _ _ _ _ (at-tally-pairs .tally-pairs .ensures .0), λ h. entries-count _ _ _ _ _ (at-tally-pairs .tally-pairs .ensures .0) refl),
+    let at-tally-pairs = c .before .before .before .before .before in
+    let n = entries-count _ _ _ _ _ (at-tally-pairs .tally-pairs .ensures .0) refl in (
+      (le-of-eq (sym n), λ h. n),
       at-tally-pairs .tally-pairs .ensures .1,
     )
 
@@ -35,6 +44,7 @@ wanted-spec =
     (tie.spec
     returns
     tally-pairs-requires
+    add-result
     same-length
     same-length-2
     returns-2)

@@ -2,13 +2,13 @@
 use native.Mathlib.Omega.{arith}
 use mathlib.Core.Path.{refl}
 use borrow.Author.Tests.{not-true, not-false}
-use Rattle.sew_tallies.proofs.TallyLaws.{pair-exact, pair-loose}
+use Rattle.sew_tallies.proofs.TallyLaws.{pair-splits, pair-one}
 use borrow.Author.Needs.{needs}
 use Rattle.sew_tallies.proofs.tallies.pair_count.Statement.{statement}
 use Rattle.sew_tallies.proofs.tallies.pair_count.Tie as tie
 
 returns : tie.Need-returns
-returns c = ((pair-loose _ _ _ _ (not-true _ (c .if1 .taken)), omega arith), (refl, refl))
+returns c = ((pair-one _ _ _ _ (not-true _ (c .if1 .taken)), omega arith), (refl, refl))
 
 pair-items-requires : tie.Need-pair-items-requires
 pair-items-requires c κs = search needs
@@ -26,7 +26,7 @@ returns-2 : tie.Need-returns-2
 returns-2 c =
     let at-pair-items = c .before .before .before .before .before in
     let at-if1 = at-pair-items .before .before .before in (
-      (pair-exact _ _ _ _ _ _ (not-false _ (at-if1 .if1 .left)) (c .count .ensures .0) (at-pair-items .pair-items .ensures .0), c .count .ensures .1),
+      (pair-splits _ _ _ _ _ _ (not-false _ (at-if1 .if1 .left)) (c .count .ensures .0) (at-pair-items .pair-items .ensures .0), c .count .ensures .1),
       at-pair-items .pair-items .ensures .1,
     )
 

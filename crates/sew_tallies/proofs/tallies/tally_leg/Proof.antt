@@ -14,13 +14,13 @@ use Rattle.sew_tallies.proofs.tallies.tally_leg.Statement.{statement}
 use Rattle.sew_tallies.proofs.tallies.tally_leg.Tie as tie
 
 abbrev Inv-loop : tie.InvT-loop
-Inv-loop rows marks₀ queue₀ exact i j stop r0 t₀ r₀ marks queue t r =
+Inv-loop rows marks₀ queue₀ splits i j stop r0 t₀ r₀ marks queue t r =
     (marks ≡ marks₀) × (queue ≡ queue₀) × (t .l < darts rows) × (r < darts rows)
     × (t .count + 3 * length (legPairs rows i j stop (t .l) r) ≤ t₀ .count + 3 * length (legPairs rows i j stop (t₀ .l) r₀))
-    × Over rows i stop (t .l) × (Leg exact rows i j stop t r ≡ Leg exact rows i j stop t₀ r₀)
+    × Over rows i stop (t .l) × (Leg splits rows i j stop t r ≡ Leg splits rows i j stop t₀ r₀)
 
 abbrev μ-loop : tie.MeasureT-loop
-μ-loop rows marks₀ queue₀ exact i j stop r0 t₀ r₀ marks queue t r = length (legPairs rows i j stop (t .l) r)
+μ-loop rows marks₀ queue₀ splits i j stop r0 t₀ r₀ marks queue t r = length (legPairs rows i j stop (t .l) r)
 
 loop-holds : tie.Need-loop-holds Inv-loop μ-loop
 loop-holds c =
@@ -92,7 +92,7 @@ loop-less c =
     let entry = at-loop .before .before .before .before in
     omega (
       arith,
-      tally-next (entry .args .exact) (entry .args .rows .now) (entry .args .i) (entry .args .j) (entry .args .stop) (at-loop .loop .t) (at-loop .loop .r) _
+      tally-next (entry .args .splits) (entry .args .rows .now) (entry .args .i) (entry .args .j) (entry .args .stop) (at-loop .loop .t) (at-loop .loop .r) _
           (at-leg-over .leg-over .ensures) (at-if1 .if1 .left) (at-loop .loop .inv .5) _ (at-note .note .ensures .0 .0) _ (c .beta-at .ensures) .0,
     )
 
@@ -103,7 +103,7 @@ loop-again c =
     let at-leg-over = at-if1 .before in
     let at-loop = at-leg-over .before in
     let entry = at-loop .before .before .before .before in
-    let n = tally-next (entry .args .exact) (entry .args .rows .now) (entry .args .i) (entry .args .j) (entry .args .stop) (at-loop .loop .t)
+    let n = tally-next (entry .args .splits) (entry .args .rows .now) (entry .args .i) (entry .args .j) (entry .args .stop) (at-loop .loop .t)
     (at-loop .loop .r) _
     (at-leg-over .leg-over .ensures) (at-if1 .if1 .left) (at-loop .loop .inv .5) _ (at-note .note .ensures .0 .0) _ (c .beta-at .ensures) in (
       at-note .note .ensures .1 .0 ∙ at-loop .loop .inv .0,

@@ -1,6 +1,6 @@
 -- Where the sizes that a plan says add up, for a reader: each for every well-formed map and real darts of it, and a sew that is done.
 --   one-entry      what holds where an entry is there
---   left-of        what an entry says of the cell that its merge leaves
+--   merged         what an entry says of the cell that its merge leaves
 --   one-sew-sum    where a 1-sew merges two vertices, the vertex of any dart of either is afterwards what its entry says
 --   two-sew-sum    so where a 2-sew merges two edges
 --   two-sew-near-sum, two-sew-end-sum   and two vertices, where its other merge of vertices is none or names no cell that this one names (`Apart`)
@@ -62,17 +62,17 @@ one-entry asked c a b e = go asked refl (eqb (a .least) (b .least)) refl
     go true p false u q = (p, eqb-false (a .least) (b .least) u, ap (first (mergeOf c a b)) q)
 
 -- what an entry says of the cell that its merge leaves
-abbrev pub left-of : Entry → Cell
-left-of e = record { least = e .a; count = e .left + e .right }
+abbrev pub merged : Entry → Cell
+merged e = record { least = e .a; count = e .left + e .right }
 
 -- the lesser name, and the sum
-says : (c : Class) (a b : Cell) (e : Entry) → mergeOf c a b ≡ e → together a b ≡ left-of e
+says : (c : Class) (a b : Cell) (e : Entry) → mergeOf c a b ≡ e → together a b ≡ merged e
 unfolding mergeOf
-says c a b e q = (λ i. record { least = sym (lesser-min (a .least) (b .least)) i; count = a .count + b .count }) ∙ ap left-of q
+says c a b e q = (λ i. record { least = sym (lesser-min (a .least) (b .least)) i; count = a .count + b .count }) ∙ ap merged q
 
 module _ (rows : List ℕ) (ld rd : ℕ) (w : WellFormed rows) (dl : Dart (darts rows) 1 ld) (dr : Dart (darts rows) 1 rd) where
   pub one-sew-sum : isDone (oneSewOn rows ld rd .answer) ≡ true → (e : Entry) → oneEntries Merge rows ld rd ≡ e ∷ [] → (x : ℕ) →
-      Orbit rows vertexΦ (oneFar rows ld) x ⊎ Orbit rows vertexΦ rd x → cellOf Vertex (oneSewOn rows ld rd .rows) x ≡ left-of e
+      Orbit rows vertexΦ (oneFar rows ld) x ⊎ Orbit rows vertexΦ rd x → cellOf Vertex (oneSewOn rows ld rd .rows) x ≡ merged e
   unfolding oneSewOn oneEntries
   one-sew-sum t e q x o =
       let k = one-entry (not (eqb (oneFar rows ld) 0)) Vertex (cellOf Vertex rows (oneFar rows ld)) (cellOf Vertex rows rd) e q in
@@ -94,7 +94,7 @@ module _ (rows : List ℕ) (ld rd : ℕ) (w : WellFormed rows) (dl : Dart (darts
 
   module _ (vertices : List ℕ) (coordinates : List Float) (d : isDone (twoSewOn vertices coordinates rows ld rd .answer) ≡ true) (e : Entry) where
     pub two-sew-sum : entriesIf true Edge Merge (cellOf Edge rows ld) (cellOf Edge rows rd) ≡ e ∷ [] → (x : ℕ) →
-        Orbit rows edgeΦ ld x ⊎ Orbit rows edgeΦ rd x → cellOf Edge (twoSewOn vertices coordinates rows ld rd .rows) x ≡ left-of e
+        Orbit rows edgeΦ ld x ⊎ Orbit rows edgeΦ rd x → cellOf Edge (twoSewOn vertices coordinates rows ld rd .rows) x ≡ merged e
     two-sew-sum q x o =
         let k = one-entry true Edge (cellOf Edge rows ld) (cellOf Edge rows rd) e q in
         let s = linked vertices coordinates d in
@@ -116,7 +116,7 @@ module _ (rows : List ℕ) (ld rd : ℕ) (w : WellFormed rows) (dl : Dart (darts
     -- where ld begins and rd ends, and where ld ends and rd begins
     pub two-sew-near-sum : entriesIf (not (eqb (farOf rows rd) 0)) Vertex Merge (cellOf Vertex rows ld) (cellOf Vertex rows (farOf rows rd)) ≡ e ∷ [] →
         Apart rows ld rd → (v : ℕ) → Orbit rows vertexΦ ld v ⊎ Orbit rows vertexΦ (farOf rows rd) v →
-        cellOf Vertex (twoSewOn vertices coordinates rows ld rd .rows) v ≡ left-of e
+        cellOf Vertex (twoSewOn vertices coordinates rows ld rd .rows) v ≡ merged e
     two-sew-near-sum q apart v o =
         let t = linked vertices coordinates d .0 in
         let k = one-entry (not (eqb (farOf rows rd) 0)) Vertex (cellOf Vertex rows ld) (cellOf Vertex rows (farOf rows rd)) e q in
@@ -127,7 +127,7 @@ module _ (rows : List ℕ) (ld rd : ℕ) (w : WellFormed rows) (dl : Dart (darts
 
     pub two-sew-end-sum : entriesIf (not (eqb (farOf rows ld) 0)) Vertex Merge (cellOf Vertex rows (farOf rows ld)) (cellOf Vertex rows rd) ≡ e ∷ [] →
         Apart rows rd ld → (v : ℕ) → Orbit rows vertexΦ (farOf rows ld) v ⊎ Orbit rows vertexΦ rd v →
-        cellOf Vertex (twoSewOn vertices coordinates rows ld rd .rows) v ≡ left-of e
+        cellOf Vertex (twoSewOn vertices coordinates rows ld rd .rows) v ≡ merged e
     two-sew-end-sum q apart v o =
         let t = linked vertices coordinates d .0 in
         let k = one-entry (not (eqb (farOf rows ld) 0)) Vertex (cellOf Vertex rows (farOf rows ld)) (cellOf Vertex rows rd) e q in

@@ -67,7 +67,7 @@ pub enum Kind {
 ///
 /// The sizes are those of the left and of the right cell as they were before a sew linked, or are after an unsew has
 /// unlinked. What a sew leaves has as many darts as both together where the entry is an edge merge, a vertex merge of
-/// a 1-sew, or the one vertex merge of a 2-sew; where a 2-sew has two, only if no cell is named by both (scope: sums).
+/// a 1-sew, or the one vertex merge of a 2-sew; where a 2-sew has two, if no cell is named by both (scope: sums).
 #[derive(Debug, Clone, Copy, PartialEq, Eq, Hash)]
 pub struct Entry {
     /// The class of the cells.

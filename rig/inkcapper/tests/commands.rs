@@ -1,19 +1,13 @@
 //! Lists of commands through the wrapper: a list is its calls one after another, whatever room its plan needs.
 
+mod common;
+
 use inkcapper::{Command, Entry, Loans, MOST_DARTS, Refusal, Vertices, map};
+
+use common::Numbers;
 
 #[cfg(not(feature = "linked"))]
 extern crate c_names;
-
-/// Numbers that look random and come again the same.
-struct Numbers(u64);
-
-impl Numbers {
-    fn below(&mut self, end: usize) -> usize {
-        self.0 = self.0.wrapping_mul(6_364_136_223_846_793_005).wrapping_add(1_442_695_040_888_963_407);
-        (self.0 >> 33) as usize % end
-    }
-}
 
 /// The commands of all operations on these darts, by their numbers from 1 on.
 fn all(ld: u32, rd: u32) -> [Command; 11] {

@@ -1,19 +1,13 @@
 //! Sizes through the wrapper: of identifiers and of entries, each the length of an orbit.
 
+mod common;
+
 use inkcapper::{Answer, Cell, ENTRY_NUMBERS, Entry, Identifier, Kind, Loans, Orbit, Refusal, Vertices, map, slices};
+
+use common::Numbers;
 
 #[cfg(not(feature = "linked"))]
 extern crate c_names;
-
-/// Numbers that look random and come again the same.
-struct Numbers(u64);
-
-impl Numbers {
-    fn below(&mut self, end: usize) -> usize {
-        self.0 = self.0.wrapping_mul(6_364_136_223_846_793_005).wrapping_add(1_442_695_040_888_963_407);
-        (self.0 >> 33) as usize % end
-    }
-}
 
 /// How many darts the cell of `d` has, by its orbit; a null dart is in none.
 fn size(class: Cell, rows: &[u32], d: u32) -> u32 {

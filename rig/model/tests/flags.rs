@@ -1,16 +1,10 @@
 //! The flags as part of the map: what is refused because of them, in which order, and what is not.
 
+mod common;
+
 use model::{Answer, Cell, Orbit};
 
-/// Rows of `n` darts with links (i, l, r).
-fn rows(n: usize, links: &[(usize, usize, usize)]) -> Vec<u32> {
-    let mut rows = vec![0; 4 * n];
-    for &(i, l, r) in links {
-        rows[4 * l + i] = r as u32;
-        rows[4 * r + if i == 1 { 0 } else { i }] = l as u32;
-    }
-    rows
-}
+use common::rows;
 
 /// Every call that tests the map, on the darts 1 and 2, with loans for as many darts as there are rows.
 fn every_call(rows: &[u32], flags: &[u8]) -> Vec<(&'static str, Answer)> {

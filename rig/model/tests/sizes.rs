@@ -1,19 +1,13 @@
 //! Sizes of cells: beside identifiers, and in the entries of plans; and the room that these take.
 
+mod common;
+
 use model::{Answer, Cell, ENTRY_NUMBERS};
+
+use common::rows;
 
 /// No dart is unused; more flags than any map here has darts.
 const USED: [u8; 25] = [0; 25];
-
-/// Rows of `n` darts with links (i, l, r).
-fn rows(n: usize, links: &[(usize, usize, usize)]) -> Vec<u32> {
-    let mut rows = vec![0; 4 * n];
-    for &(i, l, r) in links {
-        rows[4 * l + i] = r as u32;
-        rows[4 * r + if i == 1 { 0 } else { i }] = l as u32;
-    }
-    rows
-}
 
 /// The name and the size of a cell.
 fn cell(cell: Cell, rows: &[u32], d: u32) -> (u64, u64) {

@@ -1,5 +1,6 @@
 -- The vertex that a 1-sew merges has exactly the darts of both vertices.
---   Pairs           the pairs of darts that the links of a 1-sew set one behind the other, as a relation
+--   Behind, Set     one dart stands behind another now; the pairs of which the links of a 1-sew make this so
+--   behind-joins    links by beta 1 join two vertices where each of their pairs leads from the one to the other
 --   links-add       they add these images by beta 1, and by beta 0 back, and no others
 --   vertex-joins    so they join the vertices of the far end and of rd, and no others
 --   vertex-cell     where they were two, the vertex afterwards has the lesser name, and as many darts as both

@@ -15,7 +15,7 @@ use Rattle.map_betas.specs.declared.error.Refusal.TheVariants.{ShortLoan, BadDar
 use Rattle.map_betas.specs.declared.loans.Loans.{Loans}
 use Rattle.map_betas.specs.Betas.{darts}
 use Rattle.map_betas.specs.Answers.{pass, is_done}
-use Rattle.map_betas.specs.Maps.{size_test, map_test, unused, Map}
+use Rattle.map_betas.specs.Maps.{size_test, unused, Map}
 use Rattle.map_betas.specs.Guards.{loan_test, no_dart, dart_test, map_guard, guard_of, Lent, Dart, Ready}
 use Rattle.map_betas.proofs.AnswerLaws.{first_done, then_done}
 use Rattle.map_betas.proofs.Formed.{size_done, map_done}

@@ -15,8 +15,7 @@ use mathlib.Core.Path.{◌≡◌, refl, sym, ap, ◌∙◌}
 use mathlib.Core.Logic.{◌≢◌, by_cases}
 use mathlib.Core.List.{List}
 use mathlib.Core.Bool.{Bool, true, false, true≢false}
-use lib.ListN.{length}
-use Rattle.map_betas.specs.Betas.{place, beta, darts, opp}
+use Rattle.map_betas.specs.Betas.{beta, darts, opp}
 use Rattle.map_betas.specs.Answers.{is_done}
 use Rattle.map_betas.specs.Maps.{WellFormed, unused, Free, Map, Spares, Keeps, Stays}
 use Rattle.map_betas.specs.Guards.{Dart}

@@ -12,7 +12,7 @@ use cell_steps::cells::Cell;
 use map_betas::betas::beta_at;
 
 // How far a walk has come: the least dart and the number of those that it met, and the image that ended it.
-#[derive(Drop)]
+#[derive(Clone, Copy)]
 struct Walk {
     least: u32,
     count: u32,

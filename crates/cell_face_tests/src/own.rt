@@ -10,7 +10,7 @@ use cell_rounds::rounds::{go_round, is_regular};
 use cell_scratch::scratch::clear;
 
 // Whether d is its own face identifier, and how many darts the list has done with then.
-#[derive(Drop)]
+#[derive(Clone, Copy)]
 pub struct DartTest {
     pub own: bool,
     pub known: usize,

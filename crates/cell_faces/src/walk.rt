@@ -8,7 +8,7 @@ use cell_scratch::steps::push;
 use map_betas::betas::beta_at;
 
 // Where a leg stands: how many darts are marked, its two darts, and the least so far.
-#[derive(Drop)]
+#[derive(Clone, Copy)]
 pub struct Walker {
     pub k: usize,
     pub l: u32,

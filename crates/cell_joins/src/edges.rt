@@ -10,7 +10,7 @@ use crate::meet::push;
 use map_betas::betas::beta_at;
 
 // How many darts the queue has, and what ended the arm: null, or the dart that it began with.
-#[derive(Drop)]
+#[derive(Clone, Copy)]
 struct Followed {
     count: usize,
     end: u32,

@@ -10,7 +10,7 @@ use crate::meet::meet;
 use map_betas::betas::beta_at;
 
 // How many darts the queue has, and whether one of those visited has no beta 1 image.
-#[derive(Drop)]
+#[derive(Clone, Copy)]
 pub struct Flooded {
     pub count: usize,
     pub ends: bool,

@@ -36,9 +36,9 @@ module _ (rows : List ℕ) (i d : ℕ) where
   passed_in : {x : ℕ} (t : ℕ) → In x (passed rows i t d) → (u : ℕ) × (u < t) × (x ≡ far rows i u d)
   unfolding passed
   passed_in zero m = absurd (Memᴰ.not-nil m)
-  passed_in (suc t) m =
+  passed_in {x = x} (suc t) m =
       ⊎_elim
-      (λ j. let r = passed_in t j in let h = r.1 in (r.0, omega arith, r.2))
+      (λ j. let r = passed_in {x = x} t j in let h = r.1 in (r.0, omega arith, r.2))
       (λ j. (t, omega arith, Memᴰ.eq_of_singleton j))
       (Memᴰ.append_cases (passed rows i t d) m)
 

@@ -19,7 +19,7 @@ use Rattle.cell_steps.specs.Search.{add, visit, search, orbit}
 use Rattle.cell_steps.specs.Steps.{image}
 use Rattle.cell_steps.proofs.Lists.{in_at}
 use Rattle.cell_steps.proofs.SearchLaws.{search_more, search_done}
-use Rattle.cell_steps.proofs.QueueLaws.{queue_none, queue_n, push_queue, front}
+use Rattle.cell_steps.proofs.QueueLaws.{queue_none, queue_n, push_queue}
 
 pub drop_more : (a b : List ℕ) (k r : ℕ) → k ≤ r → drop k a ≡ drop k b → drop r a ≡ drop r b
 drop_more a b k r h e =

@@ -4,7 +4,7 @@ ghost use Rattle.cell_steps.specs.Steps.{policy_of, codes_of};
 
 use crate::cells::Class;
 
-#[derive(Drop)]
+#[derive(Clone, Copy)]
 pub enum OrbitPolicy {
     // 0-cell.
     Vertex,
@@ -37,7 +37,7 @@ pub fn policy_of(class: Class) -> OrbitPolicy
 }
 
 // The steps of a policy: the first `count` codes.
-#[derive(Drop)]
+#[derive(Clone, Copy)]
 pub struct Steps {
     pub codes: [u8; 6],
     pub count: usize,

@@ -12,7 +12,7 @@ use cell_steps::policy::OrbitPolicy;
 use map_betas::betas::beta_at;
 
 // Where the six steps of a vertex lead.
-#[derive(Drop)]
+#[derive(Clone, Copy)]
 struct VertexImages {
     b12: u32,
     b20: u32,

@@ -12,7 +12,7 @@ use map_betas::error::{Answer, is_done};
 use map_guard::guard::dart_test;
 
 // The links and unlinks. An unlink takes one dart, which is given twice.
-#[derive(Drop)]
+#[derive(Clone, Copy)]
 pub enum Link {
     OneLink,
     TwoLink,

@@ -10,7 +10,7 @@ use map_betas::betas::{beta_at, link_core, set_beta, unlink_core};
 use map_betas::error::{Answer, Refusal, is_done};
 
 // Where a leg of the walk stands as it ends, and how many steps it took.
-#[derive(Drop)]
+#[derive(Clone, Copy)]
 pub struct Leg {
     pub answer: Answer,
     pub l: u32,

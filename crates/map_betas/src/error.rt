@@ -3,7 +3,7 @@ ghost use Rattle.std.specs.Prelude.{◌≡◌};
 ghost use Rattle.map_betas.specs.Answers.{is_done};
 
 // Why a call was refused: a variant for each of the numbers 1 to 14.
-#[derive(Drop)]
+#[derive(Clone, Copy)]
 pub enum Refusal {
     // The length of the rows.
     BadSize(usize),
@@ -35,7 +35,7 @@ pub enum Refusal {
 }
 
 // What a call answers.
-#[derive(Drop)]
+#[derive(Clone, Copy)]
 pub enum Answer {
     // The dart or the yes (1) or no (0) that is answered, then the count written; 0 where there is none.
     Done(u32, usize),
@@ -43,7 +43,7 @@ pub enum Answer {
 }
 
 // An answer as numbers: what crosses to C and to Rust.
-#[derive(Drop)]
+#[derive(Clone, Copy)]
 pub struct Told {
     pub number: u32,
     pub first: u64,

@@ -3,7 +3,7 @@ ghost use Rattle.std.specs.Prelude.{◌≡◌};
 ghost use Rattle.map_betas.specs.Guards.{no_loans, scratch_of, orbit_loans, list_loans, vertex_loans, reader_loans, counted_as, command_loans};
 
 // The lengths of the loans that a call has beside rows and flags, which every call on a map has; a loan that it has not counts as `ENOUGH`.
-#[derive(Drop)]
+#[derive(Clone, Copy)]
 pub struct Loans {
     pub marks: usize,
     pub queue: usize,

@@ -1,2 +1,4 @@
 // Reads and free tests.
+#![tactic(auto)]
+
 pub mod basic_ops;

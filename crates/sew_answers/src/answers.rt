@@ -9,7 +9,7 @@ use map_betas::error::{Answer, Refusal};
 pub const WIDTH: usize = 5;
 
 // An answer's number, its three values, and the entries that the command has written.
-#[derive(Drop)]
+#[derive(Clone, Copy)]
 pub struct Words {
     pub number: u32,
     pub first: u32,

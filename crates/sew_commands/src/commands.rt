@@ -6,7 +6,7 @@ use link_run::links::Link;
 use sew_operations::operations::Operation;
 
 // What a command asks for: a link or an unlink, a sew or an unsew, or nothing that there is.
-#[derive(Drop)]
+#[derive(Clone, Copy)]
 pub enum Command {
     Links(Link),
     Sews(Operation),

@@ -7,14 +7,14 @@ use cell_steps::cells::{Cell, Class};
 use sew_plan::{Entry, Kind};
 
 // An entry, or none.
-#[derive(Drop)]
+#[derive(Clone, Copy)]
 pub enum Item {
     Nothing,
     One(Entry),
 }
 
 // The entries of one pair of darts, in the order in which they are written.
-#[derive(Drop)]
+#[derive(Clone, Copy)]
 pub struct Items {
     pub first: Item,
     pub second: Item,

@@ -13,7 +13,7 @@ use map_betas::betas::{beta_at, larger_of};
 use sew_plan::Kind;
 
 // A dart's far end, its edge, its vertex and the vertex of its far end.
-#[derive(Drop)]
+#[derive(Clone, Copy)]
 pub struct Side {
     pub far: u32,
     pub edge: Cell,

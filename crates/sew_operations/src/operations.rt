@@ -14,7 +14,7 @@ use sew_three::three::three_unsew_on;
 use sew_two::two::{two_sew_on, two_unsew_on};
 
 // The sews and unsews. An unsew takes one dart, which is given twice.
-#[derive(Drop)]
+#[derive(Clone, Copy)]
 pub enum Operation {
     OneSew,
     OneUnsew,

@@ -8,7 +8,7 @@ use cell_steps::cells::{Cell, Class};
 pub const WIDTH: usize = 6;
 
 // What becomes of them.
-#[derive(Drop)]
+#[derive(Clone, Copy)]
 pub enum Kind {
     Merge,
     Split,
@@ -16,7 +16,7 @@ pub enum Kind {
 
 // An entry: the class of the cells that it is about, and what becomes of them. A merge has a: out, b: left in, c: right in; a split has a: left out, b: right
 // out, c: in. Left and right say how many darts the left and the right cell have: those that come in, or those that go out.
-#[derive(Drop)]
+#[derive(Clone, Copy)]
 pub struct Entry {
     pub class: Class,
     pub kind: Kind,

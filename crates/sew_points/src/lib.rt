@@ -3,7 +3,7 @@ ghost use Rattle.std.specs.Prelude.{◌≡◌};
 ghost use Rattle.sew_points.specs.Geometry.{minus_of, dot_of, same_way, Lent, slot_at, slots_refuse, bad_geometry};
 
 // A point: three coordinates kept together.
-#[derive(Drop)]
+#[derive(Clone, Copy)]
 pub struct Point {
     pub x: f64,
     pub y: f64,
@@ -11,7 +11,7 @@ pub struct Point {
 }
 
 // The difference of two points.
-#[derive(Drop)]
+#[derive(Clone, Copy)]
 pub struct Vector {
     pub x: f64,
     pub y: f64,
@@ -19,7 +19,7 @@ pub struct Vector {
 }
 
 // What a vertex slot reads as: no vertex, or a point's three coordinates.
-#[derive(Drop)]
+#[derive(Clone, Copy)]
 pub enum Slot {
     NoVertex,
     At(f64, f64, f64),

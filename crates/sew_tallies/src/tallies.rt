@@ -12,7 +12,7 @@ use sew_pairs::pairs::pair_items;
 use sew_plan::lesser;
 
 // The least darts so far on the left and on the right, how many pairs or how many splits, and the left dart at which the leg stands.
-#[derive(Drop)]
+#[derive(Clone, Copy)]
 pub struct Tally {
     pub left: u32,
     pub right: u32,

@@ -8,7 +8,7 @@ ghost use Rattle.std.specs.Prelude.{◌≤◌};
 pub const FILLER: u32 = 3235774464;
 
 // What a walk met: the records, those that differ, the first of these counted from 1, and the bytes that are no record.
-#[derive(Drop)]
+#[derive(Clone, Copy)]
 pub struct Walked {
     pub records: u64,
     pub differences: u64,

@@ -14,7 +14,7 @@ mod tally;
 const CASES: u32 = 2000;
 
 // What came of a case, the sum behind it, and the number from which the next one goes on.
-#[derive(Drop)]
+#[derive(Clone, Copy)]
 struct Ran {
     outcome: usize,
     sum: u32,

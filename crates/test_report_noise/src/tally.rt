@@ -5,7 +5,7 @@ use crate::noise::long;
 use report_program::report_bytes;
 
 // What came of a case, and the sum behind it.
-#[derive(Drop)]
+#[derive(Clone, Copy)]
 pub struct Told {
     pub outcome: usize,
     pub sum: u32,

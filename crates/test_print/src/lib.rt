@@ -1,15 +1,20 @@
 // What test programs write to standard output: texts, numbers, and parts of a text that holds several names.
+#![tactic(auto)]
+
 ghost use Rattle.std.specs.Prelude.{◌≤◌, length};
 
+use std::io;
+use std::io::Write;
+
 // Writes bytes.
-pub fn put(text: &[u8]) {
-    io::write_all(libc::STDOUT_FILENO, text);
+pub fn put(rt: &impl Print, text: &[u8]) -> io::Result<()> {
+    io::writer(rt).write_all(text)
 }
 
 // Writes bytes and a number.
-pub fn put_count(text: &[u8], x: u64) {
-    put(text);
-    io::print_decimal(libc::STDOUT_FILENO, x);
+pub fn put_count(rt: &impl Print, text: &[u8], x: u64) -> io::Result<()> {
+    put(rt, text)?;
+    print!(rt; "{x}")
 }
 
 // The place behind the next `mark`; the end, where there is none.
@@ -28,7 +33,7 @@ fn behind(text: &[u8], mark: u8, from: usize) -> usize
 }
 
 // Writes part k of a text, counted from 0: each part ends with the mark, and that is written too.
-pub fn put_part(text: &[u8], mark: u8, k: usize) {
+pub fn put_part(rt: &impl Print, text: &[u8], mark: u8, k: usize) -> io::Result<()> {
     let mut at = 0;
     let mut i = 0;
     while i < k {
@@ -36,5 +41,5 @@ pub fn put_part(text: &[u8], mark: u8, k: usize) {
         i += 1;
     }
     let end = behind(text, mark, at);
-    put(&text[at..end]);
+    put(rt, &text[at..end])
 }

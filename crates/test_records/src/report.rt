@@ -1,7 +1,6 @@
 // What is printed at the end.
-use std::io;
-
 use crate::records::Walked;
+use std::io;
 use test_print::{put, put_count, put_part};
 
 // The name of an operation, counted from 0.

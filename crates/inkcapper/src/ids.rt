@@ -7,7 +7,6 @@ ghost use Rattle.map_betas.specs.Flat.{crossing, crossed};
 use map_answers::flat::hand_on;
 
 // The least dart of d's vertex.
-#[unsafe(no_mangle)]
 pub extern "C" fn inkcapper_vertex_id(
     rows: &[u32],
     marks: &mut [u8],
@@ -26,7 +25,6 @@ pub extern "C" fn inkcapper_vertex_id(
 }
 
 // The least dart of d's edge.
-#[unsafe(no_mangle)]
 pub extern "C" fn inkcapper_edge_id(
     rows: &[u32],
     marks: &mut [u8],
@@ -45,7 +43,6 @@ pub extern "C" fn inkcapper_edge_id(
 }
 
 // The face identifier of d, as the Rust walks it.
-#[unsafe(no_mangle)]
 pub extern "C" fn inkcapper_face_id(
     rows: &[u32],
     marks: &mut [u8],
@@ -64,7 +61,6 @@ pub extern "C" fn inkcapper_face_id(
 }
 
 // The least dart of d's volume.
-#[unsafe(no_mangle)]
 pub extern "C" fn inkcapper_volume_id(
     rows: &[u32],
     marks: &mut [u8],

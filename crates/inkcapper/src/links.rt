@@ -6,7 +6,6 @@ ghost use Rattle.map_betas.specs.Flat.{crossing, crossed};
 use map_answers::flat::hand_on;
 
 // Links ld and rd by beta 1.
-#[unsafe(no_mangle)]
 pub extern "C" fn inkcapper_one_link(
     rows: &mut [u32],
     flags: &[u8],
@@ -20,7 +19,6 @@ pub extern "C" fn inkcapper_one_link(
 }
 
 // Links ld and rd by beta 2.
-#[unsafe(no_mangle)]
 pub extern "C" fn inkcapper_two_link(
     rows: &mut [u32],
     flags: &[u8],
@@ -34,7 +32,6 @@ pub extern "C" fn inkcapper_two_link(
 }
 
 // Links the faces of ld and rd by beta 3, pair by pair.
-#[unsafe(no_mangle)]
 pub extern "C" fn inkcapper_three_link(
     rows: &mut [u32],
     flags: &[u8],
@@ -51,7 +48,6 @@ pub extern "C" fn inkcapper_three_link(
 }
 
 // Unlinks ld and its image by beta 1, which is answered.
-#[unsafe(no_mangle)]
 pub extern "C" fn inkcapper_one_unlink(
     rows: &mut [u32],
     flags: &[u8],
@@ -64,7 +60,6 @@ pub extern "C" fn inkcapper_one_unlink(
 }
 
 // Unlinks ld and its image by beta 2, which is answered.
-#[unsafe(no_mangle)]
 pub extern "C" fn inkcapper_two_unlink(
     rows: &mut [u32],
     flags: &[u8],
@@ -77,7 +72,6 @@ pub extern "C" fn inkcapper_two_unlink(
 }
 
 // Unlinks the faces of ld and its image by beta 3, which is answered, pair by pair.
-#[unsafe(no_mangle)]
 pub extern "C" fn inkcapper_three_unlink(
     rows: &mut [u32],
     flags: &[u8],

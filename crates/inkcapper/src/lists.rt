@@ -7,7 +7,6 @@ ghost use Rattle.map_betas.specs.Flat.{crossing, crossed};
 use map_answers::flat::hand_on;
 
 // Lists the vertices of darts that are not unused, ascending.
-#[unsafe(no_mangle)]
 pub extern "C" fn inkcapper_list_vertices(
     rows: &[u32],
     marks: &mut [u8],
@@ -26,7 +25,6 @@ pub extern "C" fn inkcapper_list_vertices(
 }
 
 // Lists the edges of darts that are not unused, ascending.
-#[unsafe(no_mangle)]
 pub extern "C" fn inkcapper_list_edges(
     rows: &[u32],
     marks: &mut [u8],
@@ -45,7 +43,6 @@ pub extern "C" fn inkcapper_list_edges(
 }
 
 // Lists the faces of darts that are not unused, ascending.
-#[unsafe(no_mangle)]
 pub extern "C" fn inkcapper_list_faces(
     rows: &[u32],
     marks: &mut [u8],
@@ -64,7 +61,6 @@ pub extern "C" fn inkcapper_list_faces(
 }
 
 // Lists the volumes of darts that are not unused, ascending.
-#[unsafe(no_mangle)]
 pub extern "C" fn inkcapper_list_volumes(
     rows: &[u32],
     marks: &mut [u8],

@@ -8,7 +8,6 @@ use cell_steps::policy::OrbitPolicy;
 use map_answers::flat::hand_on;
 
 // Lists the Vertex orbit of d, first found first.
-#[unsafe(no_mangle)]
 pub extern "C" fn inkcapper_orbit_vertex(
     rows: &[u32],
     marks: &mut [u8],
@@ -27,7 +26,6 @@ pub extern "C" fn inkcapper_orbit_vertex(
 }
 
 // Lists the VertexLinear orbit of d, first found first.
-#[unsafe(no_mangle)]
 pub extern "C" fn inkcapper_orbit_vertex_linear(
     rows: &[u32],
     marks: &mut [u8],
@@ -46,7 +44,6 @@ pub extern "C" fn inkcapper_orbit_vertex_linear(
 }
 
 // Lists the Edge orbit of d, first found first.
-#[unsafe(no_mangle)]
 pub extern "C" fn inkcapper_orbit_edge(
     rows: &[u32],
     marks: &mut [u8],
@@ -65,7 +62,6 @@ pub extern "C" fn inkcapper_orbit_edge(
 }
 
 // Lists the Face orbit of d, first found first.
-#[unsafe(no_mangle)]
 pub extern "C" fn inkcapper_orbit_face(
     rows: &[u32],
     marks: &mut [u8],
@@ -84,7 +80,6 @@ pub extern "C" fn inkcapper_orbit_face(
 }
 
 // Lists the FaceLinear orbit of d, first found first.
-#[unsafe(no_mangle)]
 pub extern "C" fn inkcapper_orbit_face_linear(
     rows: &[u32],
     marks: &mut [u8],
@@ -103,7 +98,6 @@ pub extern "C" fn inkcapper_orbit_face_linear(
 }
 
 // Lists the Volume orbit of d, first found first.
-#[unsafe(no_mangle)]
 pub extern "C" fn inkcapper_orbit_volume(
     rows: &[u32],
     marks: &mut [u8],
@@ -122,7 +116,6 @@ pub extern "C" fn inkcapper_orbit_volume(
 }
 
 // Lists the VolumeLinear orbit of d, first found first.
-#[unsafe(no_mangle)]
 pub extern "C" fn inkcapper_orbit_volume_linear(
     rows: &[u32],
     marks: &mut [u8],
@@ -141,7 +134,6 @@ pub extern "C" fn inkcapper_orbit_volume_linear(
 }
 
 // Lists the orbit of d under the listed betas, in their order.
-#[unsafe(no_mangle)]
 pub extern "C" fn inkcapper_orbit_custom(
     rows: &[u32],
     marks: &mut [u8],

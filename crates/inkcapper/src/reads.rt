@@ -5,7 +5,6 @@ ghost use Rattle.map_betas.specs.Reads.{beta_read, i_free, is_free};
 ghost use Rattle.map_betas.specs.Flat.{flat, flat_of};
 
 // Whether rows and flags are a 3-map: refusals 1, 2 and 3.
-#[unsafe(no_mangle)]
 pub extern "C" fn inkcapper_check_map(rows: &[u32], flags: &[u8], values: &mut [u64; 3]) -> u32
     ensures { flat result values.new ≡ flat_of (check_map rows.now flags.now) }
 {
@@ -13,7 +12,6 @@ pub extern "C" fn inkcapper_check_map(rows: &[u32], flags: &[u8], values: &mut [
 }
 
 // The image of d by beta i.
-#[unsafe(no_mangle)]
 pub extern "C" fn inkcapper_beta(rows: &[u32], i: u32, d: u32, values: &mut [u64; 3]) -> u32
     ensures { flat result values.new ≡ flat_of (beta_read rows.now i d) }
 {
@@ -21,7 +19,6 @@ pub extern "C" fn inkcapper_beta(rows: &[u32], i: u32, d: u32, values: &mut [u64
 }
 
 // Whether the image of d by beta i is null.
-#[unsafe(no_mangle)]
 pub extern "C" fn inkcapper_is_i_free(rows: &[u32], i: u32, d: u32, values: &mut [u64; 3]) -> u32
     ensures { flat result values.new ≡ flat_of (i_free rows.now i d) }
 {
@@ -29,7 +26,6 @@ pub extern "C" fn inkcapper_is_i_free(rows: &[u32], i: u32, d: u32, values: &mut
 }
 
 // Whether d has no image.
-#[unsafe(no_mangle)]
 pub extern "C" fn inkcapper_is_free(rows: &[u32], d: u32, values: &mut [u64; 3]) -> u32
     ensures { flat result values.new ≡ flat_of (is_free rows.now d) }
 {

@@ -7,7 +7,6 @@ ghost use Rattle.map_betas.specs.Flat.{crossing, crossed};
 use map_answers::flat::hand_on;
 
 // The 1-sew of ld and rd.
-#[unsafe(no_mangle)]
 pub extern "C" fn inkcapper_one_sew(
     rows: &mut [u32],
     marks: &mut [u8],
@@ -28,7 +27,6 @@ pub extern "C" fn inkcapper_one_sew(
 }
 
 // The 1-unsew of ld.
-#[unsafe(no_mangle)]
 pub extern "C" fn inkcapper_one_unsew(
     rows: &mut [u32],
     marks: &mut [u8],
@@ -48,7 +46,6 @@ pub extern "C" fn inkcapper_one_unsew(
 }
 
 // The 2-sew of ld and rd.
-#[unsafe(no_mangle)]
 pub extern "C" fn inkcapper_two_sew(
     rows: &mut [u32],
     marks: &mut [u8],
@@ -82,7 +79,6 @@ pub extern "C" fn inkcapper_two_sew(
 }
 
 // The 2-unsew of ld.
-#[unsafe(no_mangle)]
 pub extern "C" fn inkcapper_two_unsew(
     rows: &mut [u32],
     marks: &mut [u8],
@@ -102,7 +98,6 @@ pub extern "C" fn inkcapper_two_unsew(
 }
 
 // The 3-unsew of ld.
-#[unsafe(no_mangle)]
 pub extern "C" fn inkcapper_three_unsew(
     rows: &mut [u32],
     marks: &mut [u8],

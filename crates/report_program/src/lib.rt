@@ -3,8 +3,10 @@ ghost use Rattle.std.specs.Prelude.{◌≡◌, ◌≤◌, length};
 ghost use Rattle.report_text.specs.Texts.{put, lay};
 ghost use Rattle.report_lines.specs.Report.{report_of};
 
-use libc::{STDIN_FILENO, STDOUT_FILENO};
+use program_input::read_full;
 use report_whole::report::report_text;
+use std::io;
+use std::io::Write;
 
 // Writes the report of an image with scratch of its own; `more` says that the input has more bytes than are lent.
 pub fn report_bytes(bytes: &[u8], more: bool, text: &mut [u8]) -> usize
@@ -33,17 +35,18 @@ pub fn report_bytes(bytes: &[u8], more: bool, text: &mut [u8]) -> usize
 }
 
 // Writes the report of an image to standard output.
-pub fn print_report(bytes: &[u8], more: bool) {
+pub fn print_report(rt: &impl Print, bytes: &[u8], more: bool) -> io::Result<()> {
     let mut text = [0u8; 24576];
     let end = report_bytes(bytes, more, &mut text);
-    io::write_all(STDOUT_FILENO, &text[..end]);
+    io::writer(rt).write_all(&text[..end])
 }
 
 // Reads one image of up to 46,080 bytes from standard input, and writes its report to standard output.
-pub fn report_input() {
+pub fn report_input(rt: &(impl Input + Print)) -> io::Result<()> {
     let mut image = [0u8; 46080];
     let mut next = [0u8; 1];
-    let n = io::read_full(STDIN_FILENO, &mut image);
-    let more = io::read_full(STDIN_FILENO, &mut next);
-    print_report(&image[..n], more != 0);
+    let mut reader = rt.reader();
+    let n = read_full(&mut reader, &mut image)?;
+    let more = read_full(&mut reader, &mut next)?;
+    print_report(rt, &image[..n], more != 0)
 }

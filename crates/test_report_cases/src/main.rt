@@ -2,15 +2,16 @@
 ghost use Rattle.std.specs.Prelude.{◌+◌, ◌≤◌, length};
 
 use image_words::word_at;
-use libc::STDIN_FILENO;
+use program_input::read_full;
 use report_program::print_report;
+use std::io;
 use test_print::{put, put_count};
 
 // Writes the number of a case, and the report of its bytes.
-fn print_case(k: u64, bytes: &[u8]) {
-    put_count(b"case ", k);
-    put(b"\n");
-    print_report(bytes, false);
+fn print_case(rt: &impl Print, k: u64, bytes: &[u8]) -> io::Result<()> {
+    put_count(rt, b"case ", k)?;
+    put(rt, b"\n")?;
+    print_report(rt, bytes, false)
 }
 
 // The place behind the case at `at`; the end, where fewer bytes stand there than its length says.
@@ -26,7 +27,7 @@ fn behind(cases: &[u8], at: usize) -> usize
 }
 
 // Writes the report of each case.
-fn print_cases(cases: &[u8])
+fn print_cases(rt: &impl Print, cases: &[u8]) -> io::Result<()>
     requires { length cases.now ≤ 131072 }
 {
     let mut k = 1;
@@ -34,15 +35,16 @@ fn print_cases(cases: &[u8])
     while at + 4 <= cases.len() {
         let from = at + 4;
         let end = behind(cases, at);
-        print_case(k, &cases[from..end]);
+        print_case(rt, k, &cases[from..end])?;
         at = end;
         k += 1;
     }
+    Ok(())
 }
 
 // Reads the cases, 131,072 bytes of them at most.
-fn main() {
+fn main(rt: HostRuntime) -> io::Result<()> {
     let mut cases = [0u8; 131072];
-    let n = io::read_full(STDIN_FILENO, &mut cases);
-    print_cases(&cases[..n]);
+    let n = read_full(&mut rt.reader(), &mut cases)?;
+    print_cases(&rt, &cases[..n])
 }

@@ -1,4 +1,8 @@
 // The report of one image from standard input, run on an input that is too long.
-fn main() {
-    report_program::report_input();
+#![tactic(auto)]
+
+use std::io;
+
+fn main(rt: HostRuntime) -> io::Result<()> {
+    report_program::report_input(&rt)
 }

@@ -2,6 +2,7 @@
 ghost use Rattle.std.specs.Prelude.{◌<◌, ◌≤◌};
 
 use noise::{below, next};
+use std::io;
 use tally::reported;
 
 mod kinds;
@@ -54,7 +55,7 @@ fn count(counts: &mut [u64; 12], outcome: usize) {
 }
 
 // Runs the cases of a kind and writes its line. A kind's first number is its own, so that each can be run again by itself.
-fn run_kind(kind: u32) {
+fn run_kind(rt: &impl Print, kind: u32) -> io::Result<()> {
     let mut counts = [0u64; 12];
     let mut sum = 0;
     let mut x = kind;
@@ -66,14 +67,15 @@ fn run_kind(kind: u32) {
         x = ran.seed;
         k += 1;
     }
-    lines::put_line(kind as usize, &counts, sum);
+    lines::put_line(rt, kind as usize, &counts, sum)
 }
 
 // Runs every kind.
-fn main() {
+fn main(rt: HostRuntime) -> io::Result<()> {
     let mut kind = 0;
     while kind < kinds::KINDS {
-        run_kind(kind);
+        run_kind(&rt, kind)?;
         kind += 1;
     }
+    Ok(())
 }

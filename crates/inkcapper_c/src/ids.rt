@@ -1,0 +1,69 @@
+// Identifiers of cells.
+ghost use Rattle.std.specs.Prelude.{◌≡◌};
+ghost use Rattle.cell_names.specs.Calls.{id_call};
+ghost use Rattle.cell_steps.specs.declared.cells.Class.TheVariants.{Vertex, Edge, Face, Volume};
+ghost use Rattle.map_betas.specs.Flat.{crossing, crossed};
+
+// The least dart of d's vertex.
+#[unsafe(no_mangle)]
+pub extern "C" fn inkcapper_vertex_id(
+    rows: &[u32],
+    marks: &mut [u8],
+    queue: &mut [u32],
+    flags: &[u8],
+    d: u32,
+    values: &mut [u64; 3],
+) -> u32
+    ensures { crossing result values.new (marks.new, queue.new)
+        ≡ crossed (id_call rows.now marks.old queue.old flags.now Vertex d) }
+{
+    inkcapper::ids::inkcapper_vertex_id(rows, marks, queue, flags, d, values)
+}
+
+// The least dart of d's edge.
+#[unsafe(no_mangle)]
+pub extern "C" fn inkcapper_edge_id(
+    rows: &[u32],
+    marks: &mut [u8],
+    queue: &mut [u32],
+    flags: &[u8],
+    d: u32,
+    values: &mut [u64; 3],
+) -> u32
+    ensures { crossing result values.new (marks.new, queue.new)
+        ≡ crossed (id_call rows.now marks.old queue.old flags.now Edge d) }
+{
+    inkcapper::ids::inkcapper_edge_id(rows, marks, queue, flags, d, values)
+}
+
+// The face identifier of d, as the Rust walks it.
+#[unsafe(no_mangle)]
+pub extern "C" fn inkcapper_face_id(
+    rows: &[u32],
+    marks: &mut [u8],
+    queue: &mut [u32],
+    flags: &[u8],
+    d: u32,
+    values: &mut [u64; 3],
+) -> u32
+    ensures { crossing result values.new (marks.new, queue.new)
+        ≡ crossed (id_call rows.now marks.old queue.old flags.now Face d) }
+{
+    inkcapper::ids::inkcapper_face_id(rows, marks, queue, flags, d, values)
+}
+
+// The least dart of d's volume.
+#[unsafe(no_mangle)]
+pub extern "C" fn inkcapper_volume_id(
+    rows: &[u32],
+    marks: &mut [u8],
+    queue: &mut [u32],
+    flags: &[u8],
+    d: u32,
+    values: &mut [u64; 3],
+) -> u32
+    ensures { crossing result values.new (marks.new, queue.new)
+        ≡ crossed (id_call rows.now marks.old queue.old flags.now Volume d) }
+{
+    inkcapper::ids::inkcapper_volume_id(rows, marks, queue, flags, d, values)
+}

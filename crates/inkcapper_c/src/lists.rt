@@ -1,0 +1,69 @@
+// Lists of cells.
+ghost use Rattle.std.specs.Prelude.{◌≡◌};
+ghost use Rattle.cell_names.specs.Calls.{list_call};
+ghost use Rattle.cell_steps.specs.declared.cells.Class.TheVariants.{Vertex, Edge, Face, Volume};
+ghost use Rattle.map_betas.specs.Flat.{crossing, crossed};
+
+// Lists the vertices of darts that are not unused, ascending.
+#[unsafe(no_mangle)]
+pub extern "C" fn inkcapper_list_vertices(
+    rows: &[u32],
+    marks: &mut [u8],
+    queue: &mut [u32],
+    output: &mut [u32],
+    flags: &[u8],
+    values: &mut [u64; 3],
+) -> u32
+    ensures { crossing result values.new (marks.new, queue.new, output.new)
+        ≡ crossed (list_call rows.now marks.old queue.old output.old flags.now Vertex) }
+{
+    inkcapper::lists::inkcapper_list_vertices(rows, marks, queue, output, flags, values)
+}
+
+// Lists the edges of darts that are not unused, ascending.
+#[unsafe(no_mangle)]
+pub extern "C" fn inkcapper_list_edges(
+    rows: &[u32],
+    marks: &mut [u8],
+    queue: &mut [u32],
+    output: &mut [u32],
+    flags: &[u8],
+    values: &mut [u64; 3],
+) -> u32
+    ensures { crossing result values.new (marks.new, queue.new, output.new)
+        ≡ crossed (list_call rows.now marks.old queue.old output.old flags.now Edge) }
+{
+    inkcapper::lists::inkcapper_list_edges(rows, marks, queue, output, flags, values)
+}
+
+// Lists the faces of darts that are not unused, ascending.
+#[unsafe(no_mangle)]
+pub extern "C" fn inkcapper_list_faces(
+    rows: &[u32],
+    marks: &mut [u8],
+    queue: &mut [u32],
+    output: &mut [u32],
+    flags: &[u8],
+    values: &mut [u64; 3],
+) -> u32
+    ensures { crossing result values.new (marks.new, queue.new, output.new)
+        ≡ crossed (list_call rows.now marks.old queue.old output.old flags.now Face) }
+{
+    inkcapper::lists::inkcapper_list_faces(rows, marks, queue, output, flags, values)
+}
+
+// Lists the volumes of darts that are not unused, ascending.
+#[unsafe(no_mangle)]
+pub extern "C" fn inkcapper_list_volumes(
+    rows: &[u32],
+    marks: &mut [u8],
+    queue: &mut [u32],
+    output: &mut [u32],
+    flags: &[u8],
+    values: &mut [u64; 3],
+) -> u32
+    ensures { crossing result values.new (marks.new, queue.new, output.new)
+        ≡ crossed (list_call rows.now marks.old queue.old output.old flags.now Volume) }
+{
+    inkcapper::lists::inkcapper_list_volumes(rows, marks, queue, output, flags, values)
+}

@@ -5,7 +5,7 @@
 --   three_on_unmoved       a 3-unlink that refuses leaves the rows
 --   bare_link_unmoved, bare_unlink_unmoved, three_link_unmoved, three_unlink_unmoved   a refusal leaves the rows: all six calls
 -- Assumes nothing.
-use Prim.Native.Nat.{ℕ, suc, ◌<◌, ◌≤◌}
+use Prim.Native.Nat.{ℕ, suc, ◌<◌}
 use native.Mathlib.Omega.{arith}
 use native.Mathlib.Decide.{ℕ_discrete}
 use mathlib.Core.Path.{◌≡◌, refl, sym, ◌∙◌}

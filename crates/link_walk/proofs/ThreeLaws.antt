@@ -5,7 +5,7 @@
 --   on_undone                   the first leg's pairs set back, ld and rd among them
 --   on_link, on_free, on_unlink   the whole is the 3-link, the 3-unlink
 -- Assumes nothing.
-use Prim.Native.Nat.{ℕ, suc, ◌+◌, ◌-◌, ◌<◌}
+use Prim.Native.Nat.{ℕ, suc, ◌+◌, ◌<◌}
 use native.Mathlib.Omega.{arith}
 use mathlib.Core.Path.{◌≡◌, sym, ap, ◌∙◌}
 use mathlib.Core.Logic.{◌≢◌}

@@ -1,2 +1,4 @@
 // The tests of a stored image's flags and vertex records.
+#![tactic(auto)]
+
 pub mod blocks;

@@ -1,4 +1,6 @@
 // Writes what an image says into the loans: each loan from its start, as far as n darts reach.
+#![tactic(auto)]
+
 ghost use Rattle.std.specs.Prelude.{◌≡◌, ◌++◌, ℕ, ◌+◌, ◌*◌, ◌<◌, ◌≤◌, length, drop};
 ghost use Rattle.image_words.specs.Words.{words_at, bytes_at};
 ghost use Rattle.image_form.specs.Form.{Sound};

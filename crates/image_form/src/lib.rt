@@ -1,2 +1,4 @@
 // The stored image, form 1: its definitions, and where its blocks stand.
+#![tactic(auto)]
+
 pub mod form;

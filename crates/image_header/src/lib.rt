@@ -1,2 +1,4 @@
 // The test of a stored image's header.
+#![tactic(auto)]
+
 pub mod header;

@@ -1,4 +1,6 @@
 // The map test over the rows and flags as they stand in an image: the rules are those of `map_test::structure`, and so are the laws.
+#![tactic(auto)]
+
 ghost use Rattle.std.specs.Prelude.{◌≡◌, ◌+◌, ◌*◌, ◌<◌, ◌≤◌, length};
 ghost use Rattle.map_betas.specs.Maps.{breaks, breach_at, free_at, bound, map_test};
 ghost use Rattle.image_words.specs.Words.{word32};

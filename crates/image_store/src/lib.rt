@@ -1,4 +1,6 @@
 // Stores numbers in little-endian bytes: words of four bytes, and coordinates of eight.
+#![tactic(auto)]
+
 ghost use Rattle.std.specs.Prelude.{◌≡◌, true, ◌+◌, ◌≤◌, length};
 ghost use Rattle.std.proofs.lemmas.List.Edits.{sets};
 ghost use Rattle.std.specs.Float.Ieee.Scale.{finite};

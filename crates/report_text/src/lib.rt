@@ -1,4 +1,6 @@
 // Text into a lent buffer: bytes, numbers in decimal, and the lines of a report. Each function answers the place behind what it wrote.
+#![tactic(auto)]
+
 ghost use Rattle.std.specs.Prelude.{◌≡◌, [], ◌∷◌, ◌+◌, ◌<◌, ◌≤◌, length};
 ghost use Rattle.report_text.specs.Texts.{decimal, put, lay, items_of, line_of};
 

@@ -1,0 +1,20 @@
+-- `copy_bytes` meets its contract. The loop's invariant: the bytes so far, and the rest as it was. Assumes nothing.
+use native.Mathlib.Omega.{arith}
+use mathlib.Core.Path.{refl}
+use Prim.Native.Nat.{ℕ, ◌+◌}
+use lib.ListN.{get_or, length-set}
+use Rattle.image_words.proofs.Filled.{fill_none, fill_more}
+use Rattle.image_fill.proofs.copy_bytes.Goals as goal
+
+pub loop-i-init : goal.loop-i-init
+loop-i-init c = (omega arith, refl, fill_none _ _)
+
+pub loop-i-preserved : goal.loop-i-preserved
+loop-i-preserved c =
+    let l = c.loop-i in
+    let a = c.args in (
+      omega arith,
+      simp length-set l.invariant.1,
+      fill_more (λ (k : ℕ). get_or a.bytes.now (a.from + k) 0) a.flags.now l.flags l.i _ (omega arith)
+          l.invariant.2 refl,
+    )

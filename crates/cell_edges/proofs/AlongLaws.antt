@@ -2,7 +2,7 @@
 --   Along rows i d seen by x   the darts `seen` of the arm of d by beta i are met, x is the last of them, and beta `by` leads on
 --   along_starts, along_on, along_turn, along_ends   the loop, turn by turn
 -- Assumes nothing.
-use Prim.Native.Nat.{ℕ, zero, suc, ◌+◌, ◌-◌, ◌≤◌, ◌<◌}
+use Prim.Native.Nat.{ℕ, zero, suc, ◌-◌, ◌≤◌, ◌<◌}
 use native.Mathlib.Omega.{arith}
 use mathlib.Core.Path.{◌≡◌, refl, sym, ap, ◌∙◌}
 use mathlib.Core.Logic.{◌≢◌, inl, inr, ⊎_elim}

@@ -1,0 +1,11 @@
+-- `edges::walk_arm` meets its contract, by the invariant `Going`. Assumes nothing.
+use Prim.Native.Nat.{◌+◌, ◌-◌}
+use Rattle.map_betas.specs.Betas.{darts}
+use Rattle.cell_edges.proofs.CoreLaws.{Going}
+use Rattle.cell_edges.proofs.edges.walk_arm.Given as goal
+
+abbrev pub invariant-loop-x : goal.invariant-loop-x
+invariant-loop-x l = Going l.rows l.i l.d l.least l.count l.low l.met l.by l.x
+
+abbrev pub decreases-loop-x : goal.decreases-loop-x
+decreases-loop-x l = (darts l.rows + l.count) - l.met

@@ -1,0 +1,10 @@
+-- `visits::visit_list` meets its contract, by the invariant `Visiting`. Assumes nothing.
+use Rattle.cell_steps.proofs.TurnLaws.{visiting_ends}
+use Rattle.cell_steps.proofs.VisitLaws.{taken}
+use Rattle.cell_visits.proofs.visits.visit_list.Goals as goal
+
+pub loop-j-preserved : goal.loop-j-preserved
+loop-j-preserved c = taken _ c.loop-j.invariant c.loop-j-test.true c.step-k.auto.marks c.step-k.auto.out c.step-k.ensures
+
+pub returns : goal.returns
+returns c = visiting_ends _ _ _ _ _ _ _ _ _ _ c.loop-j.invariant c.loop-j-test.false

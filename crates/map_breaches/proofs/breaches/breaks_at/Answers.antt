@@ -4,9 +4,7 @@ use mathlib.Core.Path.{sym, ap, ◌∙◌}
 use mathlib.Core.Bool.{Bool, ◌&&◌}
 use lib.Dec.{eqb}
 use borrow.Author.Tests.{le-leb, lt-leb}
-use Rattle.map_betas.proofs.BetaLaws.{opp_lt}
 use Rattle.map_betas.proofs.MapLaws.{breaks_far, breaks_astray, breaks_led}
-use borrow.Author.Rules.{rules}
 use Rattle.map_breaches.proofs.breaches.breaks_at.Goals as goal
 
 pub returns-then-n-x : goal.returns-then-n-x

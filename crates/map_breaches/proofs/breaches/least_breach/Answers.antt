@@ -1,7 +1,6 @@
 -- `breaches::least_breach` meets its contract: each return is one of the cases of `breach_at`. Assumes nothing.
 use mathlib.Core.Path.{sym, ◌∙◌}
 use Rattle.map_betas.proofs.MapLaws.{breach_0, breach_1, breach_2, breach_3, breach_none}
-use borrow.Author.Rules.{rules}
 use Rattle.map_breaches.proofs.breaches.least_breach.Goals as goal
 
 pub returns-then-breaks_at : goal.returns-then-breaks_at

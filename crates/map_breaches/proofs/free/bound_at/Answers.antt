@@ -3,7 +3,6 @@ use native.Mathlib.Omega.{arith}
 use mathlib.Core.Path.{sym, ap, ◌∙◌}
 use mathlib.Core.Bool.{not}
 use Rattle.map_betas.proofs.FreeLaws.{used_zero, unused_flag, bound_used, bound_unused}
-use borrow.Author.Rules.{rules}
 use Rattle.map_breaches.proofs.free.bound_at.Goals as goal
 
 pub returns-then-flags-d-eq0 : goal.returns-then-flags-d-eq0

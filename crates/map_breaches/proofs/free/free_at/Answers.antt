@@ -1,7 +1,6 @@
 -- `free::free_at` meets its contract: each return is one of the cases of `free_at`. Assumes nothing.
 use native.Mathlib.Omega.{arith}
 use Rattle.map_betas.proofs.FreeLaws.{free_0, free_1, free_2, free_3}
-use borrow.Author.Rules.{rules}
 use Rattle.map_breaches.proofs.free.free_at.Goals as goal
 
 pub returns-then-beta_at-ne0 : goal.returns-then-beta_at-ne0

@@ -1,13 +1,8 @@
 -- `quick::all_below` meets its contract: the bits of four numbers together are no less than any of them. Assumes nothing.
 use Prim.Native.Nat.{ℕ, ◌+◌, ◌<◌, ◌≤◌}
 use native.Mathlib.Omega.{arith}
-use mathlib.Core.Path.{◌≡◌, sym}
-use mathlib.Core.Bool.{true≢false}
+use mathlib.Core.Path.{◌≡◌}
 use lib.Bits.{bit_and, bit_or, or_add_and, and_le_l, and_le_r}
-use borrow.Author.Tests.{ltb-true}
-use borrow.Author.Rules.{rules}
-use Rattle.map_betas.specs.Betas.{larger}
-use Rattle.map_betas.proofs.BetaLaws.{larger_both}
 use Rattle.map_quick.proofs.quick.all_below.Goals as goal
 
 or_between : (a b : ℕ) → (a ≤ bit_or a b) × (b ≤ bit_or a b) × (bit_or a b ≤ a + b)

@@ -1,10 +1,6 @@
 -- `quick::leads_back` meets its contract: where it says yes, each of the four images breaks no rule. Assumes nothing.
 use native.Mathlib.Omega.{arith}
-use mathlib.Core.Path.{sym}
-use mathlib.Core.Bool.{true≢false}
-use borrow.Author.Tests.{not-false}
 use Rattle.map_betas.proofs.MapLaws.{keeps_led, breach_none}
-use borrow.Author.Rules.{rules}
 use Rattle.map_quick.proofs.quick.leads_back.Goals as goal
 
 pub returns : goal.returns

@@ -1,10 +1,7 @@
 -- `quick::sides_lead_back` meets its contract: where it says yes, each of the two images is null or leads back to a dart other than itself. Assumes
 -- nothing.
 use native.Mathlib.Omega.{arith}
-use mathlib.Core.Path.{sym}
-use mathlib.Core.Bool.{true≢false}
 use borrow.Author.Tests.{eqb-true, eqb-false, not-true}
-use borrow.Author.Rules.{rules}
 use Rattle.map_betas.proofs.MapLaws.{keeps_none, keeps_led}
 use Rattle.map_quick.proofs.quick.sides_lead_back.Goals as goal
 

@@ -1,4 +1,6 @@
 // Numbers that stand in little-endian bytes: words of four bytes, and coordinates of eight.
+#![tactic(auto)]
+
 ghost use Rattle.std.specs.Prelude.{◌≡◌, true, ◌+◌, ◌<◌, ◌≤◌, length};
 ghost use Rattle.std.specs.Float.Ieee.Scale.{finite};
 ghost use Rattle.image_words.specs.Words.{word32, word64, coordinate_at};

@@ -1,4 +1,6 @@
 // Points, vertex slots and the geometry test of the 2-sew: what the 2-sew asks of honeycomb's geometry/dim3/vertex.rs.
+#![tactic(auto)]
+
 ghost use Rattle.std.specs.Prelude.{◌≡◌};
 ghost use Rattle.sew_points.specs.Geometry.{minus_of, dot_of, same_way, Lent, slot_at, slots_refuse, bad_geometry};
 

@@ -7,7 +7,7 @@ ghost use Rattle.sew_ground.specs.Entries.{all_of};
 ghost use Rattle.sew_ground.specs.Two.{side_of, two_entries};
 
 use crate::items::{Items, item_if};
-use cell_cores::core::cell_core;
+use cell_cores::cores::cell_core;
 use cell_steps::cells::{Cell, Class};
 use map_betas::betas::{beta_at, larger_of};
 use sew_plan::Kind;

@@ -9,7 +9,7 @@ ghost use Rattle.cell_steps.specs.Loans.{Clean};
 ghost use Rattle.sew_ground.specs.Entries.{listed, all_of, entries_if};
 ghost use Rattle.sew_pairs.specs.Pairs.{three_far, pair_entries};
 
-use cell_cores::core::cell_core;
+use cell_cores::cores::cell_core;
 use cell_steps::cells::Class;
 use map_betas::betas::{beta_at, larger_of};
 use sew_ground::items::{Item, Items, item_if};

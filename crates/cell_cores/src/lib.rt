@@ -1,2 +1,4 @@
 // The cores of orbits and cells.
-pub mod core;
+#![tactic(auto)]
+
+pub mod cores;

@@ -1,4 +1,6 @@
 // The queue of a list, grown by the cell of one dart.
+#![tactic(auto)]
+
 ghost use Rattle.std.specs.Prelude.{◌≡◌, ◌<◌, take};
 ghost use Rattle.map_betas.specs.Betas.{darts};
 ghost use Rattle.cell_steps.specs.Steps.{steps_by};

@@ -4,7 +4,7 @@
 --   Grew                        what the queue holds after d: the same where d was there, and else the cell of d too
 --   ended rows l from f         one of the f darts of l from the place `from` on has no beta 1 image
 --   Onward rows from l          each dart of l from the place `from` on has one
-use Rattle.std.specs.Prelude.{ℕ, zero, suc, ◌+◌, ◌-◌, ◌≤◌, ◌<◌, ◌≡◌, ◌⊎◌, Bool, false, ◌||◌, List, eqb, length, get_or, take, drop}
+use Rattle.std.specs.Prelude.{ℕ, zero, suc, ◌+◌, ◌≤◌, ◌<◌, ◌≡◌, ◌⊎◌, Bool, false, ◌||◌, List, eqb, length, get_or, take, drop}
 use Rattle.map_betas.specs.Betas.{beta}
 use Rattle.cell_steps.specs.Steps.{image}
 use Rattle.cell_steps.specs.Search.{In, Reach}

@@ -1,5 +1,7 @@
 // Cell lists of a class whose steps lead back: each orbit is visited once, so that a list takes time linear in the darts. Ports `iter_vertices`, `iter_edges`
 // and `iter_volumes` of dim3/basic_ops.rs.
+#![tactic(auto)]
+
 ghost use Rattle.std.specs.Prelude.{◌≡◌, ◌&&◌, eqb, ◌<◌, ◌≤◌, length};
 ghost use Rattle.map_betas.specs.Betas.{darts};
 ghost use Rattle.cell_steps.specs.Steps.{steps_by, cell_steps};

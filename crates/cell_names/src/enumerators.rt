@@ -1,5 +1,5 @@
 // The core of the cell lists, by class. The queue's first n places are 0 afterwards.
-ghost use Rattle.core.specs.Prelude.{◌≡◌, ◌≤◌, length};
+ghost use Rattle.std.specs.Prelude.{◌≡◌, ◌≤◌, length};
 ghost use Rattle.map_betas.specs.Betas.{darts};
 ghost use Rattle.cell_steps.specs.Loans.{Zero, Scratch, Listed};
 ghost use Rattle.cell_steps.specs.Calls.{wiped};

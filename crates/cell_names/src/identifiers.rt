@@ -1,11 +1,11 @@
 // The core of the identifiers: by class, the least dart of the orbit and its size, or the face identifier as the Rust walks it.
-ghost use Rattle.core.specs.Prelude.{◌≡◌, ◌<◌};
+ghost use Rattle.std.specs.Prelude.{◌≡◌, ◌<◌};
 ghost use Rattle.map_betas.specs.Betas.{darts};
 ghost use Rattle.map_betas.specs.Maps.{WellFormed};
 ghost use Rattle.cell_steps.specs.Loans.{Clean};
 ghost use Rattle.cell_names.specs.Cells.{is_face, identified};
 
-use cell_cores::core::cell_core;
+use cell_cores::cores::cell_core;
 use cell_face_walks::face::face_core;
 use cell_steps::cells::{Cell, Class};
 

@@ -1,5 +1,5 @@
 // The calls: an orbit by its policy, and by a list of betas. Ports `orbit_tx` of dim3/orbits.rs.
-ghost use Rattle.core.specs.Prelude.{◌≡◌, ◌/◌, ◌<◌, ◌≤◌, length};
+ghost use Rattle.std.specs.Prelude.{◌≡◌, ◌/◌, ◌<◌, ◌≤◌, length};
 ghost use Rattle.map_betas.specs.Betas.{darts};
 ghost use Rattle.map_betas.specs.Answers.{outcome};
 ghost use Rattle.map_betas.specs.Maps.{WellFormed};
@@ -7,7 +7,7 @@ ghost use Rattle.cell_steps.specs.Steps.{steps_by};
 ghost use Rattle.cell_steps.specs.Loans.{AreSteps};
 ghost use Rattle.cell_steps.specs.Calls.{orbit_done, orbit_call, custom_test, custom_call};
 
-use cell_cores::core::orbit_core;
+use cell_cores::cores::orbit_core;
 use cell_scratch::scratch::wipe_marks;
 use cell_steps::policy::{OrbitPolicy, steps_of};
 use map_betas::error::{Answer, Refusal, is_done};

@@ -1,2 +1,4 @@
 // The search, breadth first: the flood.
+#![tactic(auto)]
+
 pub mod search;

@@ -1,5 +1,5 @@
 -- What a sew or an unsew leaves once its tests have passed, from what its core leaves: `sew_left`. Assumes nothing.
-use Rattle.core.specs.Prelude.{◌≡◌, ℕ, List}
+use Rattle.std.specs.Prelude.{◌≡◌, ℕ, List}
 use mathlib.Core.Path.{ap}
 use Rattle.map_betas.specs.declared.error.Answer.{Answer}
 use Rattle.map_betas.specs.Answers.{outcome}

@@ -4,7 +4,7 @@
 --   call_one_sew_kept, call_one_unsew_kept, call_two_sew_kept, call_two_unsew_kept   each of the calls
 --   call_one_sew_refused, .. each of the calls, refused
 -- Assumes nothing.
-use Rattle.core.specs.Prelude.{◌≡◌, ℕ, Bool, true, false, cond, leb, List, length}
+use Rattle.std.specs.Prelude.{◌≡◌, ℕ, Bool, true, false, cond, leb, List, length}
 use native.Mathlib.Omega.{arith}
 use mathlib.Core.Path.{refl}
 use mathlib.Core.Bool.{true≢false}

@@ -1,5 +1,5 @@
 -- How each sew and unsew ends, from what its parts have left: refused, without room and undone, or done. Assumes nothing.
-use Rattle.core.specs.Prelude.{◌≡◌, ℕ, Bool, true, false, not, eqb, List}
+use Rattle.std.specs.Prelude.{◌≡◌, ℕ, Bool, true, false, not, eqb, List}
 use native.Mathlib.Omega.{arith}
 use mathlib.Core.Path.{sym, ap, ◌∙◌}
 use lib.Ieee.{Float}

@@ -5,7 +5,7 @@
 --   links_formed, unlinks_formed the rows stay well formed and as many, and no other dart that was free is linked
 --   taken_back_lem, put_back         the code's way of undoing them gives back every row
 -- Assumes nothing.
-use Rattle.core.specs.Prelude.{◌≡◌, ℕ, Bool, true, false, ◌≢◌, List, length}
+use Rattle.std.specs.Prelude.{◌≡◌, ℕ, Bool, true, false, ◌≢◌, List, length}
 use native.Mathlib.Omega.{arith}
 use mathlib.Core.Path.{refl, sym, ap, ◌∙◌, subst}
 use borrow.Author.Tests.{eqb-true}

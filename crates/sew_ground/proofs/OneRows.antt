@@ -1,5 +1,5 @@
 -- The rows that a part of a sew has left are a map, as the code has them: `one_linked`, `one_unlinked`, `core_linked`, `core_unlinked`. Assumes nothing.
-use Rattle.core.specs.Prelude.{◌≡◌, ℕ, ◌<◌, ◌≤◌, List}
+use Rattle.std.specs.Prelude.{◌≡◌, ℕ, ◌<◌, ◌≤◌, List}
 use mathlib.Core.Path.{ap}
 use Rattle.map_betas.specs.declared.error.Answer.{Answer}
 use Rattle.map_betas.specs.Betas.{darts}

@@ -3,7 +3,7 @@
 --   sewn_kept   a work that does so does so with any room
 --   one_sew_kept, one_unsew_kept, two_sew_kept, two_unsew_kept   each work
 -- Assumes nothing.
-use Rattle.core.specs.Prelude.{ℕ, Bool, true, false, cond, List, []}
+use Rattle.std.specs.Prelude.{ℕ, Bool, true, false, cond, List, []}
 use native.Mathlib.Omega.{arith}
 use lib.Ieee.{Float}
 use Rattle.map_betas.specs.declared.error.Answer.TheVariants.{Refused}

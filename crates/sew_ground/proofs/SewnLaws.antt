@@ -1,6 +1,6 @@
 -- Each way in which a plan is settled (`settles-..`) and in which a sew ends: refused by its work (`ends_refused`), without room (`ends_tight`),
 -- done (`ends_done`). What the code leaves is on the left. Assumes nothing.
-use Rattle.core.specs.Prelude.{◌≡◌, ℕ, ◌<◌, ◌≤◌, true, false, List, length}
+use Rattle.std.specs.Prelude.{◌≡◌, ℕ, ◌<◌, ◌≤◌, true, false, List, length}
 use mathlib.Core.Path.{sym, ap, ◌∙◌}
 use borrow.Author.Tests.{le-leb, lt-leb}
 use Rattle.map_betas.specs.declared.error.Answer.{Answer}

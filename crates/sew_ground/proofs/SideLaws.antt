@@ -1,6 +1,6 @@
 -- A side, from what the code has read (`side_is`); identifiers and far ends that are darts (`..-below`, `slot_lent`); scratch that is as it was
 -- (`clean_same`, `clean_on`). Assumes nothing.
-use Rattle.core.specs.Prelude.{◌≡◌, ℕ, ◌*◌, ◌/◌, ◌<◌, ◌≤◌, List, length}
+use Rattle.std.specs.Prelude.{◌≡◌, ℕ, ◌*◌, ◌/◌, ◌<◌, ◌≤◌, List, length}
 use native.Mathlib.Omega.{arith}
 use native.Mathlib.Decide.{dec_lt}
 use mathlib.Core.Path.{sym, ap, ◌∙◌}

@@ -3,7 +3,7 @@
 --   sew_done          a call that is not refused by its tests: scratch is 0 on its first n places
 --   sew_call          a call behind its tests, whatever its work
 --   one_sew, one_unsew, two_sew, two_unsew   the calls
-use Rattle.core.specs.Prelude.{ℕ, List, length}
+use Rattle.std.specs.Prelude.{ℕ, List, length}
 use Rattle.std.specs.Prelude.{Float}
 use Rattle.map_betas.specs.declared.error.Answer.{Answer}
 use Rattle.map_betas.specs.Betas.{darts}

@@ -3,7 +3,7 @@
 --   entries_if asked c k a b   that entry, where it is asked for and the names of a and b differ
 --   listed, all_of          the entries of an item; of the three items of a pair
 --   written_all plan k es   the plan with es written from its entry number k on
-use Rattle.core.specs.Prelude.{ℕ, ◌+◌, Bool, cond, not, ◌&&◌, List, [], ◌∷◌, ◌++◌, ◌==◌}
+use Rattle.std.specs.Prelude.{ℕ, ◌+◌, Bool, cond, not, ◌&&◌, List, [], ◌∷◌, ◌++◌, ◌==◌}
 use Rattle.cell_steps.specs.declared.cells.Cell.{Cell}
 use Rattle.cell_steps.specs.declared.cells.Class.{Class}
 use Rattle.sew_plan.specs.declared.Kind.{Kind}

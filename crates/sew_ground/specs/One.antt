@@ -5,7 +5,7 @@
 --   one_links, one_unlinks   the links that a 1-sew makes; the unlinks of a 1-unsew
 --   one_sew_on, one_unsew_on   the whole
 --   taken_back, relinked    the rows with those links, or unlinks, undone in the reverse order
-use Rattle.core.specs.Prelude.{ℕ, Bool, cond, not, ◌&&◌, ◌||◌, List, ◌==◌}
+use Rattle.std.specs.Prelude.{ℕ, Bool, cond, not, ◌&&◌, ◌||◌, List, ◌==◌}
 use Rattle.map_betas.specs.declared.error.Answer.TheVariants.{Refused}
 use Rattle.map_betas.specs.declared.error.Refusal.TheVariants.{AsymmetricalFaces}
 use Rattle.map_betas.specs.Betas.{beta, larger}

@@ -4,7 +4,7 @@
 --   settled     entries with the room that the plan has: written, or refusal 11
 --   sewn        a work, with the room that the plan has: refusal 11 where it does not fit, and only then
 --   dart_of      the dart of an answer
-use Rattle.core.specs.Prelude.{ℕ, cond, List, length, nat_le}
+use Rattle.std.specs.Prelude.{ℕ, cond, List, length, nat_le}
 use Rattle.map_betas.specs.declared.error.Answer.{Answer}
 use Rattle.map_betas.specs.declared.error.Answer.TheVariants.{Done, Refused}
 use Rattle.map_betas.specs.declared.error.Refusal.TheVariants.{PlanRoom}

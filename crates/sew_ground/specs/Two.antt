@@ -3,7 +3,7 @@
 --   two_entries k l r    the edge and the vertices that merge or split
 --   linked_sides         the link of two sides, with its merges
 --   two_sew_on, two_unsew_on   the whole
-use Rattle.core.specs.Prelude.{ℕ, Bool, true, cond, not, List, [], ◌++◌, ◌==◌}
+use Rattle.std.specs.Prelude.{ℕ, Bool, true, cond, not, List, [], ◌++◌, ◌==◌}
 use Rattle.std.specs.Prelude.{Float}
 use Rattle.map_betas.specs.declared.error.Answer.TheVariants.{Refused}
 use Rattle.map_betas.specs.declared.error.Refusal.TheVariants.{BadGeometry}

@@ -1,5 +1,5 @@
 // The entries of one pair of darts: at most three, each there or not.
-ghost use Rattle.core.specs.Prelude.{◌≡◌, ◌+◌, ◌*◌, ◌≤◌, length};
+ghost use Rattle.std.specs.Prelude.{◌≡◌, ◌+◌, ◌*◌, ◌≤◌, length};
 ghost use Rattle.sew_plan.specs.Plan.{width};
 ghost use Rattle.sew_ground.specs.Entries.{entry_of, listed, all_of, entries_if, written_all};
 

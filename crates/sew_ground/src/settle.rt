@@ -1,5 +1,5 @@
 // The end of a sew: its entries are written, or there is no room for them.
-ghost use Rattle.core.specs.Prelude.{◌≡◌};
+ghost use Rattle.std.specs.Prelude.{◌≡◌};
 ghost use Rattle.sew_ground.specs.Entries.{all_of};
 ghost use Rattle.sew_ground.specs.Sewn.{settles, settled};
 

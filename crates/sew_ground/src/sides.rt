@@ -1,5 +1,5 @@
 // What a sew asks of a dart: the cells at its two ends.
-ghost use Rattle.core.specs.Prelude.{◌≡◌, ◌<◌};
+ghost use Rattle.std.specs.Prelude.{◌≡◌, ◌<◌};
 ghost use Rattle.map_betas.specs.Betas.{darts};
 ghost use Rattle.map_betas.specs.Maps.{WellFormed};
 ghost use Rattle.cell_steps.specs.Loans.{Clean};
@@ -7,7 +7,7 @@ ghost use Rattle.sew_ground.specs.Entries.{all_of};
 ghost use Rattle.sew_ground.specs.Two.{side_of, two_entries};
 
 use crate::items::{Items, item_if};
-use cell_cores::core::cell_core;
+use cell_cores::cores::cell_core;
 use cell_steps::cells::{Cell, Class};
 use map_betas::betas::{beta_at, larger_of};
 use sew_plan::Kind;

@@ -1,5 +1,5 @@
 // The 1-sew and the 1-unsew. Ports dim3/sews/one.rs.
-ghost use Rattle.core.specs.Prelude.{◌≡◌, ◌<◌};
+ghost use Rattle.std.specs.Prelude.{◌≡◌, ◌<◌};
 ghost use Rattle.map_betas.specs.Betas.{darts};
 ghost use Rattle.map_betas.specs.Maps.{WellFormed};
 ghost use Rattle.map_betas.specs.Guards.{Dart};
@@ -8,7 +8,7 @@ ghost use Rattle.sew_ground.specs.Entries.{all_of};
 ghost use Rattle.sew_ground.specs.Sewn.{leaves, sewn};
 ghost use Rattle.sew_ground.specs.One.{one_entries, one_sew_on, one_unsew_on};
 
-use cell_cores::core::cell_core;
+use cell_cores::cores::cell_core;
 use cell_steps::cells::Class;
 use map_betas::betas::{beta_at, larger_of};
 use map_betas::error::{Answer, is_done};

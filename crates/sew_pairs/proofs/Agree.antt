@@ -1,6 +1,6 @@
 -- The worked examples of the 3-unsew: each call of the table leaves what the table says (`agree`), computed from the definitions.
 -- Assumes nothing.
-use Rattle.core.specs.Prelude.{◌≡◌}
+use Rattle.std.specs.Prelude.{◌≡◌}
 use mathlib.Core.Path.{refl}
 use Rattle.map_betas.specs.Maps.{bad_size, breaks, breach_at, free_at, unused, bound, first_breach, map_test}
 use Rattle.map_betas.specs.Guards.{loan_test, no_dart, map_guard, guard_of}

@@ -4,7 +4,7 @@
 --   first_ends, first_end_lem, first_over   the first leg ends, where, and before it has as many pairs as the rows have places
 --   back_ends, back_over     and so does the second, where the first has come to null
 -- Assumes nothing.
-use Rattle.core.specs.Prelude.{◌≡◌, ℕ, zero, suc, ◌<◌, ◌≤◌, true, false, ◌≢◌, ◌⊎◌, List, length}
+use Rattle.std.specs.Prelude.{◌≡◌, ℕ, zero, suc, ◌<◌, ◌≤◌, true, false, ◌≢◌, ◌⊎◌, List, length}
 use native.Mathlib.Omega.{arith}
 use native.Mathlib.Decide.{ℕ_discrete}
 use mathlib.Core.Path.{refl, sym, ap, ◌∙◌}

@@ -3,7 +3,7 @@
 --   pairs_most   no more pairs than twice the places of the rows, and one
 --   unsew_most   the entries are the face split, and at most three for each pair
 -- Assumes nothing.
-use Rattle.core.specs.Prelude.{ℕ, ◌+◌, ◌*◌, ◌≤◌, Bool, true, false, cond, eqb, List, [], ◌∷◌, length}
+use Rattle.std.specs.Prelude.{ℕ, ◌+◌, ◌*◌, ◌≤◌, Bool, true, false, cond, eqb, List, [], ◌∷◌, length}
 use native.Mathlib.Omega.{arith}
 use lib.ListN.{length-append}
 use Rattle.map_betas.specs.Betas.{beta}

@@ -1,6 +1,6 @@
 -- The call: what a 3-unsew answers and leaves for any rows, flags, loans and dart.
 --   three_unsew   the call behind its tests; `sew_call` is of the crate `sew_ground`
-use Rattle.core.specs.Prelude.{ℕ, List}
+use Rattle.std.specs.Prelude.{ℕ, List}
 use Rattle.map_betas.specs.Answers.{Outcome}
 use Rattle.sew_ground.specs.Calls.{SewLoans, sew_call, sew_guard}
 use Rattle.sew_pairs.specs.Three.{three_unsew_on}

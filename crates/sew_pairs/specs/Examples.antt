@@ -4,7 +4,7 @@
 --   zeros3, zeros4, zeros6, sevens   loans: three, four, six zeros; six numbers that are not 0
 --   six                       the numbers of an entry
 --   lines                     the table
-use Rattle.core.specs.Prelude.{ℕ, List, [], ◌∷◌, ◌++◌}
+use Rattle.std.specs.Prelude.{ℕ, List, [], ◌∷◌, ◌++◌}
 use Rattle.map_betas.specs.declared.error.Answer.{Answer}
 use Rattle.map_betas.specs.declared.error.Answer.TheVariants.{Done, Refused}
 use Rattle.map_betas.specs.declared.error.Refusal.TheVariants.{AsymmetricalFaces, PlanRoom}

@@ -8,7 +8,7 @@
 --   leg_pairs, leg_end                the same with as many pairs as the rows have places
 --   Over rows i stop l              a leg is over before it has so many
 -- A leg goes from l and r, l on by beta i and r on by beta j, until l is null or at `stop`. No leg of a 3-unsew is cut short (`proofs/Ends.antt`).
-use Rattle.core.specs.Prelude.{◌≡◌, ℕ, zero, suc, Bool, true, cond, ◌||◌, List, [], ◌∷◌, ◌++◌, length, ◌==◌}
+use Rattle.std.specs.Prelude.{◌≡◌, ℕ, zero, suc, Bool, true, cond, ◌||◌, List, [], ◌∷◌, ◌++◌, length, ◌==◌}
 use Rattle.map_betas.specs.Betas.{beta, larger}
 use Rattle.cell_steps.specs.declared.cells.Class.TheVariants.{Vertex, Edge}
 use Rattle.cell_steps.specs.Idents.{cell_of}

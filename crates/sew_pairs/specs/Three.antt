@@ -7,7 +7,7 @@
 --   splits_of rows left right ps    the face split and the splits of the pairs
 --   three_entries rows ld rd        the entries of the 3-unsew, of the rows after the 3-unlink
 --   three_unsew_on rows ld           the whole
-use Rattle.core.specs.Prelude.{ℕ, cond, List, [], ◌∷◌, ◌++◌, length, ◌==◌}
+use Rattle.std.specs.Prelude.{ℕ, cond, List, [], ◌∷◌, ◌++◌, length, ◌==◌}
 use Rattle.map_betas.specs.Betas.{beta}
 use Rattle.link_walk.specs.Three.{three_unlink_on}
 use Rattle.cell_steps.specs.declared.cells.Cell.{Cell}

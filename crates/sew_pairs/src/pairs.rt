@@ -1,5 +1,5 @@
 // The splits of one pair of darts: at most three.
-ghost use Rattle.core.specs.Prelude.{◌≡◌, ◌<◌, true, ◌==◌};
+ghost use Rattle.std.specs.Prelude.{◌≡◌, ◌<◌, true, ◌==◌};
 ghost use Rattle.map_betas.specs.Betas.{beta, darts};
 ghost use Rattle.map_betas.specs.Maps.{WellFormed};
 ghost use Rattle.cell_steps.specs.declared.cells.Class.TheVariants.{Vertex};
@@ -9,7 +9,7 @@ ghost use Rattle.cell_steps.specs.Loans.{Clean};
 ghost use Rattle.sew_ground.specs.Entries.{listed, all_of, entries_if};
 ghost use Rattle.sew_pairs.specs.Pairs.{three_far, pair_entries};
 
-use cell_cores::core::cell_core;
+use cell_cores::cores::cell_core;
 use cell_steps::cells::Class;
 use map_betas::betas::{beta_at, larger_of};
 use sew_ground::items::{Item, Items, item_if};

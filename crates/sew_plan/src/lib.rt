@@ -1,4 +1,6 @@
 // The plan of a sew: entries that say which cells merge or split, written as whole groups of u32 numbers.
+#![tactic(auto)]
+
 ghost use Rattle.std.specs.Prelude.{◌≡◌, ◌+◌, ◌*◌, ◌≤◌, length};
 ghost use Rattle.sew_plan.specs.Plan.{width, code_of, lesser_of, merge_of, split_of, written, room_of};
 

@@ -1,5 +1,5 @@
 -- `orbits::custom_test` meets its contract: the test of the betas from j on is the whole test. Assumes nothing.
-use Rattle.core.specs.Prelude.{◌≡◌, ◌-◌, ◌≤◌, length, drop}
+use Rattle.std.specs.Prelude.{◌≡◌, ◌-◌, ◌≤◌, length, drop}
 use mathlib.Core.Path.{refl, sym, ◌∙◌}
 use native.Mathlib.Omega.{arith}
 use Rattle.cell_steps.specs.Calls.{custom_test}

@@ -1,6 +1,6 @@
 -- `orbits::list_orbit` meets its contract: wiped marks, and the core on the first n of them. Assumes nothing.
 use mathlib.Core.Path.{sym, ap}
-use Rattle.core.specs.Prelude.{ℕ}
+use Rattle.std.specs.Prelude.{ℕ}
 use Rattle.map_betas.specs.declared.error.Answer.TheVariants.{Done}
 use Rattle.map_betas.specs.Betas.{darts}
 use Rattle.map_betas.proofs.AnswerLaws.{outcome_is}

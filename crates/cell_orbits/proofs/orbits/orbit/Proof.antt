@@ -1,5 +1,5 @@
 -- `orbits::orbit` meets its contract: refused by the guard, or the orbit under the policy's steps. Assumes nothing.
-use Rattle.core.specs.Prelude.{◌≡◌, ℕ, true, List}
+use Rattle.std.specs.Prelude.{◌≡◌, ℕ, true, List}
 use mathlib.Core.Path.{sym, ap, ◌∙◌}
 use lib.Seq.{length-take-le}
 use borrow.Author.Tests.{not-true, not-false}

@@ -1,5 +1,5 @@
 -- `orbits::orbit_custom` meets its contract: refused by the guard or by the test of the list, or the orbit under the listed betas. Assumes nothing.
-use Rattle.core.specs.Prelude.{◌≡◌, true}
+use Rattle.std.specs.Prelude.{◌≡◌, true}
 use mathlib.Core.Path.{refl, sym, ap, ◌∙◌}
 use borrow.Author.Tests.{not-true, not-false}
 use Rattle.map_betas.specs.declared.loans.Loans.{Loans}

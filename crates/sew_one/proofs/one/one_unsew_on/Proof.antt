@@ -1,6 +1,6 @@
 -- `one::one_unsew_on` meets its contract: each return is one of the ways in which a 1-unsew ends. Assumes nothing.
 use native.Mathlib.Omega.{arith}
-use Rattle.core.specs.Prelude.{◌≡◌}
+use Rattle.std.specs.Prelude.{◌≡◌}
 use mathlib.Core.Path.{sym, ◌∙◌, refl}
 use borrow.Author.Tests.{not-true, not-false}
 use Rattle.map_betas.specs.Betas.{beta}

@@ -1,6 +1,6 @@
 // The cores: an orbit as a list, and a cell by its class: its least dart and its count. They are lent n marks that are 0, and leave scratch as it was. An edge
 // needs none.
-ghost use Rattle.core.specs.Prelude.{◌≡◌, ◌<◌, ◌≤◌, length, take};
+ghost use Rattle.std.specs.Prelude.{◌≡◌, ◌<◌, ◌≤◌, length, take};
 ghost use Rattle.map_betas.specs.Betas.{darts};
 ghost use Rattle.map_betas.specs.Maps.{WellFormed};
 ghost use Rattle.cell_steps.specs.Steps.{steps_by};

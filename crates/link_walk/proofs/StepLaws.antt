@@ -5,7 +5,7 @@
 --   step_kept              a step that refuses leaves the rows
 --   formed_inside          a map's images are all darts
 --   changeable, changeable_le   how many places a walk can still change
---   changed-..             what a change leaves: a map (`changed_formed`), the other images, fewer places to change (`changed_fewer`)
+--   changed_..             what a change leaves: a map (`changed_formed`), the other images, fewer places to change (`changed_fewer`)
 -- Assumes nothing.
 use Prim.Native.Nat.{ℕ, ◌-◌, ◌<◌, ◌≤◌}
 use native.Mathlib.Omega.{arith}

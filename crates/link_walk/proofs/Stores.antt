@@ -1,7 +1,7 @@
 -- Stores in rows.
 --   inside_set        a store of a dart keeps rows inside
 --   beta_set          a store of a beta 3 image leaves the images by beta 0, 1 and 2
---   zeros, zeros-..   how many places are null, and how a store changes that: why a walk ends
+--   zeros, zeros_..   how many places are null, and how a store changes that: why a walk ends
 --   clear_comm        stores of 0 commute
 -- Assumes nothing.
 use Prim.Native.Nat.{ℕ, zero, suc, ◌<◌, ◌≤◌}

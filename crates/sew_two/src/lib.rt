@@ -1,2 +1,4 @@
 // The 2-sew and the 2-unsew.
+#![tactic(auto)]
+
 pub mod two;

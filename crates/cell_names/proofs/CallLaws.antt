@@ -2,7 +2,7 @@
 --   id_ready, list_ready        what holds once the guard has passed
 --   ident_face, ident_cell, list_face, list_least   the two ways to an identifier and to a list
 -- Assumes nothing.
-use Rattle.core.specs.Prelude.{◌≡◌, ℕ, true, false, List, length}
+use Rattle.std.specs.Prelude.{◌≡◌, ℕ, true, false, List, length}
 use mathlib.Core.Path.{refl, sym, ap, ◌∙◌}
 use mathlib.Core.Bool.{true≢false}
 use Rattle.map_betas.specs.declared.error.Answer.{Answer}

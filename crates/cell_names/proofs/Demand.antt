@@ -6,7 +6,7 @@
 --   call_listed          a list's call writes exactly the darts that are not unused and are their own identifier, ascending
 --   id_refused, orbit_refused, custom_refused, list_refused   a refused call leaves every loan
 -- Each but the last for a map, loans that are long enough, and a dart of it, in use or not. Assumes nothing.
-use Rattle.core.specs.Prelude.{◌≡◌, ℕ, ◌<◌, ◌≤◌, Bool, true, false, cond, ◌≢◌, ◌↔◌, List, [], ◌∷◌, length}
+use Rattle.std.specs.Prelude.{◌≡◌, ℕ, ◌<◌, ◌≤◌, Bool, true, false, cond, ◌≢◌, ◌↔◌, List, [], ◌∷◌, length}
 use native.Mathlib.Omega.{arith}
 use mathlib.Core.Path.{refl, ap, ◌∙◌}
 use Rattle.map_betas.specs.declared.error.Answer.{Answer}

@@ -1,5 +1,5 @@
 -- Worked examples, computed: the lists of a closed triangle and of a cube, and calls, done and refused. Assumes nothing.
-use Rattle.core.specs.Prelude.{◌≡◌, ℕ, List, [], ◌∷◌, replicate}
+use Rattle.std.specs.Prelude.{◌≡◌, ℕ, List, [], ◌∷◌, replicate}
 use mathlib.Core.Path.{refl}
 use Rattle.map_betas.specs.declared.error.Answer.TheVariants.{Done, Refused}
 use Rattle.map_betas.specs.declared.error.Refusal.TheVariants.{ShortLoan, NotAMap, BadDart}

@@ -1,7 +1,7 @@
 -- What a call answers, and what it leaves of its loans.
 --   id_done, list_done     a call that is not refused
 --   id_call, list_call     the calls, for each class
-use Rattle.core.specs.Prelude.{ℕ, List, length}
+use Rattle.std.specs.Prelude.{ℕ, List, length}
 use Rattle.map_betas.specs.declared.error.Answer.{Answer}
 use Rattle.map_betas.specs.declared.error.Answer.TheVariants.{Done}
 use Rattle.map_betas.specs.Betas.{darts}

@@ -3,7 +3,7 @@
 --   identified class rows d   what the identifier says of d's cell: its name, and how many darts it has
 --   ident_of class rows d      the name alone
 --   list_of class rows flags   the list of the cells
-use Rattle.core.specs.Prelude.{ℕ, Bool, true, false, List}
+use Rattle.std.specs.Prelude.{ℕ, Bool, true, false, List}
 use Rattle.map_betas.specs.Betas.{darts}
 use Rattle.cell_steps.specs.Steps.{vertex, edge, volume}
 use Rattle.cell_steps.specs.Idents.{ident, cell_of}

@@ -32,7 +32,8 @@ fit c =
     accepted_by _ _ _ _ _ _ c.requires (ap is_done (sym t) ∙ passed c)
 
 pub returns-then-not-is_done : goal.returns-then-not-is_done
-returns-then-not-is_done c = read_refused _ _ _ _ _ _ _ (tested (goal.at.returns-then-not-is_done c).After-image_test-t) (sym c.is_done.ensures ∙ c.if-not-is_done.true)
+returns-then-not-is_done c =
+    read_refused _ _ _ _ _ _ _ (tested (goal.at.returns-then-not-is_done c).After-image_test-t) (sym c.is_done.ensures ∙ c.if-not-is_done.true)
 
 pub word_at-n-requires : goal.word_at-n-requires
 word_at-n-requires c = omega (arith, (fit (goal.at.word_at-n-requires c).Else-not-is_done).image.header.whole)
@@ -41,31 +42,35 @@ pub flag_offset-requires : goal.flag_offset-requires
 flag_offset-requires c = omega (arith, (fit (goal.at.flag_offset-requires c).Else-not-is_done).image.header.few)
 
 pub copy_bytes-requires : goal.copy_bytes-requires
-copy_bytes-requires c = (
-  omega (arith, c.word_at-n.ensures, c.flag_offset.ensures, (fit (goal.at.copy_bytes-requires c).Else-not-is_done).image.header.fits),
-  omega (arith, c.word_at-n.ensures, (fit (goal.at.copy_bytes-requires c).Else-not-is_done).flag_room),
-)
+copy_bytes-requires c =
+    let f = fit (goal.at.copy_bytes-requires c).Else-not-is_done in (
+      omega (arith, c.word_at-n.ensures, c.flag_offset.ensures, f.image.header.fits),
+      omega (arith, c.word_at-n.ensures, f.flag_room),
+    )
 
 pub word_at-requires : goal.word_at-requires
 word_at-requires c = omega (arith, (fit (goal.at.word_at-requires c).Else-not-is_done).image.header.whole)
 
 pub fill_slots-requires : goal.fill_slots-requires
-fill_slots-requires c = (
-  omega (arith, c.requires, c.word_at-n.ensures, (fit (goal.at.fill_slots-requires c).Else-not-is_done).image.header.few),
-  omega (arith, c.word_at-n.ensures, c.word_at.ensures, (fit (goal.at.fill_slots-requires c).Else-not-is_done).image.header.fits),
-  sound_read _ _ _ c.word_at-n.ensures c.word_at.ensures (fit (goal.at.fill_slots-requires c).Else-not-is_done).image.vertices,
-  omega (arith, c.word_at-n.ensures, (fit (goal.at.fill_slots-requires c).Else-not-is_done).mark_room),
-  omega (arith, c.word_at-n.ensures, (fit (goal.at.fill_slots-requires c).Else-not-is_done).coordinate_room),
-)
+fill_slots-requires c =
+    let f = fit (goal.at.fill_slots-requires c).Else-not-is_done in (
+      omega (arith, c.requires, c.word_at-n.ensures, f.image.header.few),
+      omega (arith, c.word_at-n.ensures, c.word_at.ensures, f.image.header.fits),
+      sound_read _ _ _ c.word_at-n.ensures c.word_at.ensures f.image.vertices,
+      omega (arith, c.word_at-n.ensures, f.mark_room),
+      omega (arith, c.word_at-n.ensures, f.coordinate_room),
+    )
 
 pub copy_words-requires : goal.copy_words-requires
-copy_words-requires c = (
-  omega (arith, c.word_at-n.ensures, (fit (goal.at.copy_words-requires c).Else-not-is_done).image.header.fits),
-  omega (arith, c.word_at-n.ensures, (fit (goal.at.copy_words-requires c).Else-not-is_done).row_room),
-)
+copy_words-requires c =
+    let f = fit (goal.at.copy_words-requires c).Else-not-is_done in (
+      omega (arith, c.word_at-n.ensures, f.image.header.fits),
+      omega (arith, c.word_at-n.ensures, f.row_room),
+    )
 
 pub returns : goal.returns
 returns c =
-    read_done _ _ _ _ _ _ _ (tested (goal.at.returns c).After-image_test-t) (passed (goal.at.returns c).Else-not-is_done) _ _ _ _ _ _ c.word_at-n.ensures c.word_at.ensures
+    read_done _ _ _ _ _ _ _ (tested (goal.at.returns c).After-image_test-t) (passed (goal.at.returns c).Else-not-is_done)
+    _ _ _ _ _ _ c.word_at-n.ensures c.word_at.ensures
     (flags_copied c.args.bytes.now c.args.flags.now _ _ _ c.flag_offset.ensures c.copy_bytes.ensures)
     c.fill_slots.ensures c.copy_words.ensures

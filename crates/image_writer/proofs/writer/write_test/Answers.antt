@@ -26,7 +26,7 @@ returns-then-flags-ne0 c =
     let args = c.args in
     flag_refused args.rows.now args.flags.now args.vertices.now args.coordinates.now _
     (c.guard-g.ensures ∙ ap (λ (l : Loans). guard_of args.rows.now args.flags.now l 0 0 0) c.reader_loans-loans.ensures)
-    (sym c.is_done.ensures ∙ c.if-not-is_done.false) c.if-flags-ne0.true
+    (sym c.is_done.ensures ∙ c.if-not-is_done.false) (omega arith)
 
 pub points_finite-requires : goal.points_finite-requires
 points_finite-requires c =
@@ -41,7 +41,7 @@ returns-then-not-points_finite c =
     let args = c.args in
     point_refused args.rows.now args.flags.now args.vertices.now args.coordinates.now _
     (c.guard-g.ensures ∙ ap (λ (l : Loans). guard_of args.rows.now args.flags.now l 0 0 0) c.reader_loans-loans.ensures)
-    (sym c.is_done.ensures ∙ c.if-not-is_done.false) c.if-flags-ne0.false
+    (sym c.is_done.ensures ∙ c.if-not-is_done.false) (omega arith)
     (sym c.points_finite.ensures ∙ c.if-not-points_finite.true)
 
 pub returns : goal.returns
@@ -49,5 +49,5 @@ returns c =
     let args = c.args in
     test_passes args.rows.now args.flags.now args.vertices.now args.coordinates.now _
     (c.guard-g.ensures ∙ ap (λ (l : Loans). guard_of args.rows.now args.flags.now l 0 0 0) c.reader_loans-loans.ensures)
-    (sym c.is_done.ensures ∙ c.if-not-is_done.false) c.if-flags-ne0.false
+    (sym c.is_done.ensures ∙ c.if-not-is_done.false) (omega arith)
     (sym c.points_finite.ensures ∙ c.if-not-points_finite.false)

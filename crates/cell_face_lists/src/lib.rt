@@ -1,2 +1,4 @@
 // The list of faces. Ports `iter_faces` of dim3/basic_ops.rs.
+#![tactic(auto)]
+
 pub mod list;

@@ -1,2 +1,4 @@
 // What the list of faces asks of each dart.
+#![tactic(auto)]
+
 pub mod own;

@@ -1,2 +1,4 @@
 // The walk that finds a face identifier.
+#![tactic(auto)]
+
 pub mod face;

@@ -53,7 +53,7 @@ pub fn leg(
     requires { Scratch rows.now marks.old queue.old × (i < 4) × (j < 4) × (start.l < darts rows.now) × (start.r < darts rows.now)
         × Queue marks.old queue.old start.k }
     ensures { Walked (legOf rows.now i j (darts rows.now)
-        (record { seen = take start.k queue.old; l = start.l; result = start.r; low = start.low }))
+        (record { seen = take start.k queue.old; l = start.l; r = start.r; low = start.low }))
         queue.old start.k marks.new queue.new result.k result.l result.r result.low }
 {
     let mut k = start.k;

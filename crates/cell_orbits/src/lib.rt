@@ -1,2 +1,4 @@
 // The orbit calls.
+#![tactic(auto)]
+
 pub mod orbits;

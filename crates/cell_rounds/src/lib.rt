@@ -1,2 +1,4 @@
 // Going round the chain of a face.
+#![tactic(auto)]
+
 pub mod rounds;

@@ -1,7 +1,7 @@
 -- The laws of the header test. Assumes nothing.
 --   unless_done    a test that was passed was good, and so were those behind it
---   start-..       each case of words 0 and 1
---   layout-..      each case of words 2 to 6
+--   start_..       each case of words 0 and 1
+--   layout_..      each case of words 2 to 6
 --   header_done    a header that passes has the form
 --   header_good    a header that has the form passes
 use Prim.Native.Nat.{ℕ, ◌<◌, ◌≤◌}

@@ -1,5 +1,5 @@
 -- The laws of the test of the vertex records. Assumes nothing.
---   record_low, record_high, record-part, record-last   each case of one record
+--   record_low, record_high, record_first, record_second, record_third   each case of one record
 --   records_bad, records_next, records_end   the turns of the test of all
 --   vertices_bad, vertices_pass   each case of the test
 --   vertices_done   records that pass keep the rules

@@ -1,2 +1,4 @@
 // The reader of stored images.
+#![tactic(auto)]
+
 pub mod reader;

@@ -1,2 +1,4 @@
 // The writer of stored images.
+#![tactic(auto)]
+
 pub mod writer;

@@ -2,7 +2,6 @@
 use native.Mathlib.Omega.{arith}
 use Rattle.image_form.proofs.StoredLaws.{stored_far, stored_null, stored_dart0, stored_fixed, stored_back}
 use Rattle.image_map.proofs.breaks_at.Goals as goal
-use Rattle.image_map.proofs.breaks_at.Goals.{then-i-ge2+else-x-d, else-i-ge2}
 
 pub returns-then-n-x : goal.returns-then-n-x
 returns-then-n-x c = stored_far _ _ _ _ _ c.stored_beta-x.ensures (omega arith) (omega arith) c.if-n-x.true
@@ -24,4 +23,4 @@ pub returns : goal.returns
 returns c =
     stored_back _ _ _ _ _ c.stored_beta-x.ensures (omega arith) (omega arith) (omega arith) c.if-x-eq0.false _ _
     c.opp_of.ensures c.stored_beta.ensures c.if-d-eq0.false
-    (λ l. elim c.if-i-ge2.branch [ then-i-ge2+else-x-d w ↦ w.if-x-d.false | else-i-ge2 w ↦ absurd (omega arith) ])
+    (λ l e. omega arith)

@@ -3,7 +3,7 @@
 --   at_pairs, of_pairs   the pairs of a leg that ends after m: the t-th for each t below m, and no others
 --   parted             a pair is listed exactly where its left dart is of the chain of ld and its right dart was that dart's image
 -- Assumes nothing.
-use Rattle.std.specs.Prelude.{◌≡◌, ℕ, zero, suc, ◌<◌, ◌≤◌, true, false, eqb, ◌≢◌, ◌⊎◌, ◌↔◌, List, [], ◌∷◌, ◌++◌, length}
+use Rattle.std.specs.Prelude.{◌≡◌, ℕ, zero, suc, ◌<◌, ◌≤◌, true, false, eqb, ◌≢◌, ◌↔◌, List, [], ◌∷◌, ◌++◌, length}
 use native.Mathlib.Omega.{arith}
 use native.Mathlib.Decide.{ℕ_discrete}
 use mathlib.Core.Path.{refl, sym, ap, ◌∙◌, subst}

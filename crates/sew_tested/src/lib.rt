@@ -1,2 +1,4 @@
 // An operation for any rows, flags, loans and darts.
+#![tactic(auto)]
+
 pub mod tested;

@@ -1,2 +1,4 @@
 // The three unsews as calls.
+#![tactic(auto)]
+
 pub mod calls;

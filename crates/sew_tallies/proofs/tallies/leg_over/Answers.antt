@@ -1,4 +1,4 @@
--- `tally::leg_over` meets its contract. Assumes nothing.
+-- `tallies::leg_over` meets its contract. Assumes nothing.
 use Rattle.sew_pairs.proofs.LegLaws.{over_null, over_at}
 use Rattle.sew_tallies.proofs.tallies.leg_over.Goals as goal
 

@@ -1,4 +1,4 @@
--- `tally::pair_count` meets its contract. Assumes nothing.
+-- `tallies::pair_count` meets its contract. Assumes nothing.
 use native.Mathlib.Omega.{arith}
 use Rattle.sew_tallies.proofs.TallyLaws.{pair_splits, pair_one}
 use Rattle.sew_tallies.proofs.tallies.pair_count.Goals as goal

@@ -1,2 +1,4 @@
 // A list of commands on a map, with scratch of any content.
+#![tactic(auto)]
+
 pub mod wiped;

@@ -1,4 +1,6 @@
 // The report as programs run it: of bytes, with scratch for 1,024 darts, and of standard input.
+#![tactic(auto)]
+
 ghost use Rattle.std.specs.Prelude.{◌≡◌, ◌≤◌, length};
 ghost use Rattle.report_text.specs.Texts.{put, lay};
 ghost use Rattle.report_lines.specs.Report.{report_of};

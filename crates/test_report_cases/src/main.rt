@@ -1,4 +1,6 @@
 // Runs of the report on many inputs: standard input holds cases, each a length in four little-endian bytes and then as many bytes.
+#![tactic(auto)]
+
 ghost use Rattle.std.specs.Prelude.{◌+◌, ◌≤◌, length};
 
 use image_words::word_at;

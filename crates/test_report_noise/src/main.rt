@@ -1,4 +1,6 @@
 // Runs of the report on noise that the program makes itself: 2,000 cases of each kind, counted by what came of them.
+#![tactic(auto)]
+
 ghost use Rattle.std.specs.Prelude.{◌<◌, ◌≤◌};
 
 use noise::{below, next};

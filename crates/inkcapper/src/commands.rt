@@ -6,7 +6,7 @@ ghost use Rattle.sew_commands.specs.Calls.{commands as commandsOf};
 use map_answers::flat::hand_on;
 
 // A list of links, sews, unlinks and unsews, three numbers each, under one map test.
-pub extern "C" fn inkcapper_commands(
+pub fn inkcapper_commands(
     rows: &mut [u32],
     marks: &mut [u8],
     queue: &mut [u32],

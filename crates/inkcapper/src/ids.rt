@@ -7,7 +7,7 @@ ghost use Rattle.map_betas.specs.Flat.{crossing, crossed};
 use map_answers::flat::hand_on;
 
 // The least dart of d's vertex.
-pub extern "C" fn inkcapper_vertex_id(
+pub fn inkcapper_vertex_id(
     rows: &[u32],
     marks: &mut [u8],
     queue: &mut [u32],
@@ -25,7 +25,7 @@ pub extern "C" fn inkcapper_vertex_id(
 }
 
 // The least dart of d's edge.
-pub extern "C" fn inkcapper_edge_id(
+pub fn inkcapper_edge_id(
     rows: &[u32],
     marks: &mut [u8],
     queue: &mut [u32],
@@ -43,7 +43,7 @@ pub extern "C" fn inkcapper_edge_id(
 }
 
 // The face identifier of d, as the Rust walks it.
-pub extern "C" fn inkcapper_face_id(
+pub fn inkcapper_face_id(
     rows: &[u32],
     marks: &mut [u8],
     queue: &mut [u32],
@@ -61,7 +61,7 @@ pub extern "C" fn inkcapper_face_id(
 }
 
 // The least dart of d's volume.
-pub extern "C" fn inkcapper_volume_id(
+pub fn inkcapper_volume_id(
     rows: &[u32],
     marks: &mut [u8],
     queue: &mut [u32],

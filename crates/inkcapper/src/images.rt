@@ -7,7 +7,7 @@ ghost use Rattle.map_betas.specs.Flat.{crossing, crossed};
 use map_answers::flat::hand_on;
 
 // Reads an image of form 1 into flags, vertex marks, coordinates and rows.
-pub extern "C" fn inkcapper_read_image(
+pub fn inkcapper_read_image(
     bytes: &[u8],
     flags: &mut [u8],
     vertices: &mut [u8],
@@ -25,7 +25,7 @@ pub extern "C" fn inkcapper_read_image(
 }
 
 // Writes an image of form 1 from rows, flags, vertex marks and coordinates.
-pub extern "C" fn inkcapper_write_image(
+pub fn inkcapper_write_image(
     rows: &[u32],
     flags: &[u8],
     vertices: &[u8],

@@ -1,5 +1,7 @@
-// The calls with plain C linkage, on numbers and slices. Each makes the crate's call and hands on its answer: the number is returned, the three
-// values are written (0 where absent).
+// The calls as C has them, on numbers and slices; `inkcapper_c` exports them with plain C linkage. Each makes the crate's call and hands on its answer: the
+// number is returned, the three values are written (0 where absent).
+#![tactic(auto)]
+
 pub mod commands;
 pub mod ids;
 pub mod images;

@@ -6,7 +6,7 @@ ghost use Rattle.map_betas.specs.Flat.{crossing, crossed};
 use map_answers::flat::hand_on;
 
 // Links ld and rd by beta 1.
-pub extern "C" fn inkcapper_one_link(
+pub fn inkcapper_one_link(
     rows: &mut [u32],
     flags: &[u8],
     ld: u32,
@@ -19,7 +19,7 @@ pub extern "C" fn inkcapper_one_link(
 }
 
 // Links ld and rd by beta 2.
-pub extern "C" fn inkcapper_two_link(
+pub fn inkcapper_two_link(
     rows: &mut [u32],
     flags: &[u8],
     ld: u32,
@@ -32,7 +32,7 @@ pub extern "C" fn inkcapper_two_link(
 }
 
 // Links the faces of ld and rd by beta 3, pair by pair.
-pub extern "C" fn inkcapper_three_link(
+pub fn inkcapper_three_link(
     rows: &mut [u32],
     flags: &[u8],
     ld: u32,
@@ -48,36 +48,21 @@ pub extern "C" fn inkcapper_three_link(
 }
 
 // Unlinks ld and its image by beta 1, which is answered.
-pub extern "C" fn inkcapper_one_unlink(
-    rows: &mut [u32],
-    flags: &[u8],
-    ld: u32,
-    values: &mut [u64; 3],
-) -> u32
+pub fn inkcapper_one_unlink(rows: &mut [u32], flags: &[u8], ld: u32, values: &mut [u64; 3]) -> u32
     ensures { crossing result values.new rows.new ≡ crossed (one_unlink rows.old flags.now ld) }
 {
     hand_on(link_flat::one::one_unlink(rows, flags, ld), values)
 }
 
 // Unlinks ld and its image by beta 2, which is answered.
-pub extern "C" fn inkcapper_two_unlink(
-    rows: &mut [u32],
-    flags: &[u8],
-    ld: u32,
-    values: &mut [u64; 3],
-) -> u32
+pub fn inkcapper_two_unlink(rows: &mut [u32], flags: &[u8], ld: u32, values: &mut [u64; 3]) -> u32
     ensures { crossing result values.new rows.new ≡ crossed (two_unlink rows.old flags.now ld) }
 {
     hand_on(link_flat::two::two_unlink(rows, flags, ld), values)
 }
 
 // Unlinks the faces of ld and its image by beta 3, which is answered, pair by pair.
-pub extern "C" fn inkcapper_three_unlink(
-    rows: &mut [u32],
-    flags: &[u8],
-    ld: u32,
-    values: &mut [u64; 3],
-) -> u32
+pub fn inkcapper_three_unlink(rows: &mut [u32], flags: &[u8], ld: u32, values: &mut [u64; 3]) -> u32
     ensures { crossing result values.new rows.new ≡ crossed (three_unlink rows.old flags.now ld) }
 {
     hand_on(

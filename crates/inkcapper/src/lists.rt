@@ -7,7 +7,7 @@ ghost use Rattle.map_betas.specs.Flat.{crossing, crossed};
 use map_answers::flat::hand_on;
 
 // Lists the vertices of darts that are not unused, ascending.
-pub extern "C" fn inkcapper_list_vertices(
+pub fn inkcapper_list_vertices(
     rows: &[u32],
     marks: &mut [u8],
     queue: &mut [u32],
@@ -25,7 +25,7 @@ pub extern "C" fn inkcapper_list_vertices(
 }
 
 // Lists the edges of darts that are not unused, ascending.
-pub extern "C" fn inkcapper_list_edges(
+pub fn inkcapper_list_edges(
     rows: &[u32],
     marks: &mut [u8],
     queue: &mut [u32],
@@ -43,7 +43,7 @@ pub extern "C" fn inkcapper_list_edges(
 }
 
 // Lists the faces of darts that are not unused, ascending.
-pub extern "C" fn inkcapper_list_faces(
+pub fn inkcapper_list_faces(
     rows: &[u32],
     marks: &mut [u8],
     queue: &mut [u32],
@@ -61,7 +61,7 @@ pub extern "C" fn inkcapper_list_faces(
 }
 
 // Lists the volumes of darts that are not unused, ascending.
-pub extern "C" fn inkcapper_list_volumes(
+pub fn inkcapper_list_volumes(
     rows: &[u32],
     marks: &mut [u8],
     queue: &mut [u32],

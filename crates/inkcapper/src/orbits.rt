@@ -8,7 +8,7 @@ use cell_steps::policy::OrbitPolicy;
 use map_answers::flat::hand_on;
 
 // Lists the Vertex orbit of d, first found first.
-pub extern "C" fn inkcapper_orbit_vertex(
+pub fn inkcapper_orbit_vertex(
     rows: &[u32],
     marks: &mut [u8],
     output: &mut [u32],
@@ -26,7 +26,7 @@ pub extern "C" fn inkcapper_orbit_vertex(
 }
 
 // Lists the VertexLinear orbit of d, first found first.
-pub extern "C" fn inkcapper_orbit_vertex_linear(
+pub fn inkcapper_orbit_vertex_linear(
     rows: &[u32],
     marks: &mut [u8],
     output: &mut [u32],
@@ -44,7 +44,7 @@ pub extern "C" fn inkcapper_orbit_vertex_linear(
 }
 
 // Lists the Edge orbit of d, first found first.
-pub extern "C" fn inkcapper_orbit_edge(
+pub fn inkcapper_orbit_edge(
     rows: &[u32],
     marks: &mut [u8],
     output: &mut [u32],
@@ -62,7 +62,7 @@ pub extern "C" fn inkcapper_orbit_edge(
 }
 
 // Lists the Face orbit of d, first found first.
-pub extern "C" fn inkcapper_orbit_face(
+pub fn inkcapper_orbit_face(
     rows: &[u32],
     marks: &mut [u8],
     output: &mut [u32],
@@ -80,7 +80,7 @@ pub extern "C" fn inkcapper_orbit_face(
 }
 
 // Lists the FaceLinear orbit of d, first found first.
-pub extern "C" fn inkcapper_orbit_face_linear(
+pub fn inkcapper_orbit_face_linear(
     rows: &[u32],
     marks: &mut [u8],
     output: &mut [u32],
@@ -98,7 +98,7 @@ pub extern "C" fn inkcapper_orbit_face_linear(
 }
 
 // Lists the Volume orbit of d, first found first.
-pub extern "C" fn inkcapper_orbit_volume(
+pub fn inkcapper_orbit_volume(
     rows: &[u32],
     marks: &mut [u8],
     output: &mut [u32],
@@ -116,7 +116,7 @@ pub extern "C" fn inkcapper_orbit_volume(
 }
 
 // Lists the VolumeLinear orbit of d, first found first.
-pub extern "C" fn inkcapper_orbit_volume_linear(
+pub fn inkcapper_orbit_volume_linear(
     rows: &[u32],
     marks: &mut [u8],
     output: &mut [u32],
@@ -134,7 +134,7 @@ pub extern "C" fn inkcapper_orbit_volume_linear(
 }
 
 // Lists the orbit of d under the listed betas, in their order.
-pub extern "C" fn inkcapper_orbit_custom(
+pub fn inkcapper_orbit_custom(
     rows: &[u32],
     marks: &mut [u8],
     output: &mut [u32],

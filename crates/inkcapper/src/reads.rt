@@ -5,28 +5,28 @@ ghost use Rattle.map_betas.specs.Reads.{beta_read, i_free, is_free};
 ghost use Rattle.map_betas.specs.Flat.{flat, flat_of};
 
 // Whether rows and flags are a 3-map: refusals 1, 2 and 3.
-pub extern "C" fn inkcapper_check_map(rows: &[u32], flags: &[u8], values: &mut [u64; 3]) -> u32
+pub fn inkcapper_check_map(rows: &[u32], flags: &[u8], values: &mut [u64; 3]) -> u32
     ensures { flat result values.new ≡ flat_of (check_map rows.now flags.now) }
 {
     map_read_numbers::numbers::check_map(rows, flags, values)
 }
 
 // The image of d by beta i.
-pub extern "C" fn inkcapper_beta(rows: &[u32], i: u32, d: u32, values: &mut [u64; 3]) -> u32
+pub fn inkcapper_beta(rows: &[u32], i: u32, d: u32, values: &mut [u64; 3]) -> u32
     ensures { flat result values.new ≡ flat_of (beta_read rows.now i d) }
 {
     map_read_numbers::numbers::beta(rows, i, d, values)
 }
 
 // Whether the image of d by beta i is null.
-pub extern "C" fn inkcapper_is_i_free(rows: &[u32], i: u32, d: u32, values: &mut [u64; 3]) -> u32
+pub fn inkcapper_is_i_free(rows: &[u32], i: u32, d: u32, values: &mut [u64; 3]) -> u32
     ensures { flat result values.new ≡ flat_of (i_free rows.now i d) }
 {
     map_read_numbers::numbers::is_i_free(rows, i, d, values)
 }
 
 // Whether d has no image.
-pub extern "C" fn inkcapper_is_free(rows: &[u32], d: u32, values: &mut [u64; 3]) -> u32
+pub fn inkcapper_is_free(rows: &[u32], d: u32, values: &mut [u64; 3]) -> u32
     ensures { flat result values.new ≡ flat_of (is_free rows.now d) }
 {
     map_read_numbers::numbers::is_free(rows, d, values)

@@ -7,7 +7,7 @@ ghost use Rattle.map_betas.specs.Flat.{crossing, crossed};
 use map_answers::flat::hand_on;
 
 // The 1-sew of ld and rd.
-pub extern "C" fn inkcapper_one_sew(
+pub fn inkcapper_one_sew(
     rows: &mut [u32],
     marks: &mut [u8],
     queue: &mut [u32],
@@ -27,7 +27,7 @@ pub extern "C" fn inkcapper_one_sew(
 }
 
 // The 1-unsew of ld.
-pub extern "C" fn inkcapper_one_unsew(
+pub fn inkcapper_one_unsew(
     rows: &mut [u32],
     marks: &mut [u8],
     queue: &mut [u32],
@@ -46,7 +46,7 @@ pub extern "C" fn inkcapper_one_unsew(
 }
 
 // The 2-sew of ld and rd.
-pub extern "C" fn inkcapper_two_sew(
+pub fn inkcapper_two_sew(
     rows: &mut [u32],
     marks: &mut [u8],
     queue: &mut [u32],
@@ -79,7 +79,7 @@ pub extern "C" fn inkcapper_two_sew(
 }
 
 // The 2-unsew of ld.
-pub extern "C" fn inkcapper_two_unsew(
+pub fn inkcapper_two_unsew(
     rows: &mut [u32],
     marks: &mut [u8],
     queue: &mut [u32],
@@ -98,7 +98,7 @@ pub extern "C" fn inkcapper_two_unsew(
 }
 
 // The 3-unsew of ld.
-pub extern "C" fn inkcapper_three_unsew(
+pub fn inkcapper_three_unsew(
     rows: &mut [u32],
     marks: &mut [u8],
     queue: &mut [u32],

@@ -1,4 +1,6 @@
 // Replays a list of answers against the exported calls: standard input holds the records, and what agrees and what differs is counted.
+#![tactic(auto)]
+
 mod calls;
 mod cells;
 mod joins;

@@ -1,5 +1,5 @@
 //! Finds the proved library for the feature `linked`: the file that `INKCAPPER_ARCHIVE` names, else
-//! `target/host/libinkcapper.a`, else `target/staticlib/libinkcapper.a` of the repository.
+//! `target/host/libinkcapper.a` of the repository, which `bin/library` writes.
 
 use std::env;
 use std::path::PathBuf;
@@ -10,13 +10,13 @@ fn main() {
         return;
     }
     let repository = PathBuf::from(env::var("CARGO_MANIFEST_DIR").expect("cargo sets it")).join("../..");
-    let places = match env::var_os("INKCAPPER_ARCHIVE") {
-        Some(named) => vec![PathBuf::from(named)],
-        None => ["host", "staticlib"].map(|kind| repository.join("target").join(kind).join("libinkcapper.a")).to_vec(),
+    let archive = match env::var_os("INKCAPPER_ARCHIVE") {
+        Some(named) => PathBuf::from(named),
+        None => repository.join("target/host/libinkcapper.a"),
     };
-    let Some(archive) = places.iter().find(|place| place.is_file()) else {
-        panic!("no proved library at {places:?}: build it, or set INKCAPPER_ARCHIVE to the file");
-    };
+    if !archive.is_file() {
+        panic!("no proved library at {}: build it, or set INKCAPPER_ARCHIVE to the file", archive.display());
+    }
     let archive = archive.canonicalize().expect("it is there");
     println!("cargo:rerun-if-changed={}", archive.display());
     println!("cargo:rustc-link-search=native={}", archive.parent().expect("a file").display());

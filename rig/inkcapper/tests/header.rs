@@ -76,7 +76,7 @@ fn of_rust(text: &str) -> Functions {
 /// Parameters of an exported function: a slice crosses as a pointer and a length.
 fn of_exports(text: &str) -> Functions {
     let mut functions = Functions::new();
-    for declaration in text.split("#[no_mangle]\npub extern \"C\" fn ").skip(1) {
+    for declaration in text.split("#[unsafe(no_mangle)]\npub extern \"C\" fn ").skip(1) {
         let name = declaration[..declaration.find('(').expect("parameters")].to_string();
         let mut parameters = Vec::new();
         let listed = inside(declaration, '(', ')');
@@ -147,7 +147,7 @@ fn header_and_declarations_agree() {
 #[test]
 fn header_and_exports_agree() {
     let mut exports = Functions::new();
-    for file in std::fs::read_dir(repository().join("crates/inkcapper/src")).expect("the crate inkcapper") {
+    for file in std::fs::read_dir(repository().join("crates/inkcapper_c/src")).expect("the crate inkcapper_c") {
         let text = std::fs::read_to_string(file.expect("a file").path()).expect("a text");
         exports.extend(of_exports(&text));
     }

@@ -3,13 +3,11 @@
 --   call_regular           where every face of darts in use is regular, it and the Rust's list of faces are one
 --   face_orbits_refused    a refused call leaves every loan
 -- Each but the last for a map and loans that are long enough. Assumes nothing.
-use Rattle.std.specs.Prelude.{◌≡◌, ℕ, ◌<◌, ◌≤◌, false, ◌↔◌, List, length, get_or}
+use Rattle.std.specs.Prelude.{◌≡◌, ℕ, ◌<◌, ◌≤◌, false, ◌↔◌, List, length, get_or, is_ok}
 use native.Mathlib.Omega.{arith}
 use mathlib.Core.Path.{refl, sym, ap, ◌∙◌}
-use Rattle.map_betas.specs.declared.error.Answer.{Answer}
-use Rattle.map_betas.specs.declared.error.Answer.TheVariants.{Done}
 use Rattle.map_betas.specs.Betas.{darts}
-use Rattle.map_betas.specs.Answers.{pass, is_done, Outcome, outcome, behind}
+use Rattle.map_betas.specs.Answers.{pass, Outcome, outcome, behind, done, Test}
 use Rattle.map_betas.specs.Maps.{WellFormed, Map}
 use Rattle.map_betas.specs.Guards.{list_loans, Dart}
 use Rattle.map_betas.proofs.AnswerLaws.{refused_leaves}
@@ -47,15 +45,15 @@ module _ (rows flags marks : List ℕ) (map : Map rows flags) (m : darts rows �
 
     orbits_done : face_orbits_call rows marks queue output flags ≡ face_orbits_done rows marks queue output flags
     unfolding face_orbits_call
-    orbits_done = ap (λ (g : Answer). behind g (marks, queue, output) (face_orbits_done rows marks queue output flags)) list_passes
+    orbits_done = ap (λ (g : Test). behind g (marks, queue, output) (face_orbits_done rows marks queue output flags)) list_passes
 
     faces_done : list_call rows marks queue output flags Face ≡ list_done rows marks queue output flags Face
     unfolding list_call
-    faces_done = ap (λ (g : Answer). behind g (marks, queue, output) (list_done rows marks queue output flags Face)) list_passes
+    faces_done = ap (λ (g : Test). behind g (marks, queue, output) (list_done rows marks queue output flags Face)) list_passes
 
     -- what a list's call writes and answers
     abbrev pub Lists : Outcome (List ℕ × List ℕ × List ℕ) → (ℕ → ℕ) → Type 0
-    Lists called id = (l : List ℕ) × (called ≡ outcome (Done 0 (length l)) (wiped (darts rows) marks, wiped (darts rows) queue, headed l output))
+    Lists called id = (l : List ℕ) × (called ≡ outcome (done 0 (length l)) (wiped (darts rows) marks, wiped (darts rows) queue, headed l output))
         × Ascending l × ((x : ℕ) → In x l ↔ ((1 ≤ x) × (x < darts rows) × Own id flags x))
 
     -- the list is of the least dart of each face that has a dart in use
@@ -67,13 +65,13 @@ module _ (rows flags marks : List ℕ) (map : Map rows flags) (m : darts rows �
         face_orbits_call rows marks queue output flags ≡ list_call rows marks queue output flags Face
     call_regular all =
         orbits_done
-        ∙ ap (λ (l : List ℕ). outcome (Done 0 (length l)) (wiped (darts rows) marks, wiped (darts rows) queue, headed l output)) (face_same rows flags w all)
+        ∙ ap (λ (l : List ℕ). outcome (done 0 (length l)) (wiped (darts rows) marks, wiped (darts rows) queue, headed l output)) (face_same rows flags w all)
         ∙ sym faces_done
 
 -- ---- a refused call, whatever it is lent
 
 module _ (rows marks flags : List ℕ) where
-  pub face_orbits_refused : (queue output : List ℕ) → is_done (face_orbits_call rows marks queue output flags).answer ≡ false →
+  pub face_orbits_refused : (queue output : List ℕ) → is_ok (face_orbits_call rows marks queue output flags).answer ≡ false →
       (face_orbits_call rows marks queue output flags).loans ≡ (marks, queue, output)
   unfolding face_orbits_call
   face_orbits_refused queue output =

@@ -1,8 +1,7 @@
 -- Worked examples, computed: the two lists of faces of an open strip. Assumes nothing.
 use Rattle.std.specs.Prelude.{◌≡◌, ℕ, List, [], ◌∷◌}
 use mathlib.Core.Path.{refl}
-use Rattle.map_betas.specs.declared.error.Answer.TheVariants.{Done}
-use Rattle.map_betas.specs.Answers.{outcome}
+use Rattle.map_betas.specs.Answers.{outcome, done}
 use Rattle.map_betas.specs.Maps.{bad_size, breaks, breach_at, free_at, unused, bound, first_breach, map_test}
 use Rattle.map_betas.specs.Guards.{loan_test, no_dart, map_guard, guard_of}
 use Rattle.cell_steps.specs.Steps.{image}
@@ -19,13 +18,13 @@ strip : List ℕ
 strip = 0 ∷ 0 ∷ 0 ∷ 0 ∷ 0 ∷ 2 ∷ 0 ∷ 0 ∷ 1 ∷ 0 ∷ 0 ∷ 0 ∷ 0 ∷ 0 ∷ 0 ∷ 0 ∷ []
 
 strip_orbits : face_orbits_call strip (7 ∷ 7 ∷ 7 ∷ 7 ∷ []) (8 ∷ 8 ∷ 8 ∷ 8 ∷ []) (9 ∷ 9 ∷ 9 ∷ 9 ∷ []) (0 ∷ 0 ∷ 0 ∷ 1 ∷ [])
-    ≡ outcome (Done 0 1) (0 ∷ 0 ∷ 0 ∷ 0 ∷ [], 0 ∷ 0 ∷ 0 ∷ 0 ∷ [], 1 ∷ 9 ∷ 9 ∷ 9 ∷ [])
+    ≡ outcome (done 0 1) (0 ∷ 0 ∷ 0 ∷ 0 ∷ [], 0 ∷ 0 ∷ 0 ∷ 0 ∷ [], 1 ∷ 9 ∷ 9 ∷ 9 ∷ [])
 unfolding strip image mem add visit search orbit least_from least ident cells_from cells_by bad_size breaks breach_at free_at unused bound first_breach map_test
     loan_test no_dart map_guard guard_of face_orbits_call
 strip_orbits = refl
 
 strip_faces : list_call strip (7 ∷ 7 ∷ 7 ∷ 7 ∷ []) (8 ∷ 8 ∷ 8 ∷ 8 ∷ []) (9 ∷ 9 ∷ 9 ∷ 9 ∷ []) (0 ∷ 0 ∷ 0 ∷ 1 ∷ []) Face
-    ≡ outcome (Done 0 2) (0 ∷ 0 ∷ 0 ∷ 0 ∷ [], 0 ∷ 0 ∷ 0 ∷ 0 ∷ [], 1 ∷ 2 ∷ 9 ∷ 9 ∷ [])
+    ≡ outcome (done 0 2) (0 ∷ 0 ∷ 0 ∷ 0 ∷ [], 0 ∷ 0 ∷ 0 ∷ 0 ∷ [], 1 ∷ 2 ∷ 9 ∷ 9 ∷ [])
 unfolding strip image mem add cells_from cells_by fresh insert lower turn leg forward backward face_walk face_id bad_size breaks breach_at free_at unused bound
     first_breach map_test loan_test no_dart map_guard guard_of list_call
 strip_faces = refl

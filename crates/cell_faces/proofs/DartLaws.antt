@@ -1,6 +1,6 @@
 -- What the list of faces learns of a dart, case by case.
 --   Testing, testing_starts, test-..   the loop of `is_regular`
---   walked_id, walked_room, walked_below   the walk of a dart with darts marked before, unmarked again
+--   walked_id, walked_below   the walk of a dart with darts marked before, unmarked again
 --   tested_old, tested_round, tested_walked   a dart that is done with, a regular one, and any other
 -- Assumes nothing.
 use Prim.Native.Nat.{ℕ, suc, ◌-◌, ◌≤◌, ◌<◌}
@@ -24,7 +24,7 @@ use Rattle.cell_faces.specs.FaceLists.{go_round, Faced, Apart, WalkedId, DartTes
 use Rattle.cell_faces.proofs.RegularLaws.{regular_sound, regular_complete}
 use Rattle.cell_faces.proofs.RoundLaws.{round_joins}
 use Rattle.cell_faces.proofs.AvoidLaws.{walk_low, walk_seen}
-use Rattle.cell_faces.proofs.UnmarkLaws.{old_same, unmarked, part_is, part_room, part_below}
+use Rattle.cell_faces.proofs.UnmarkLaws.{old_same, unmarked, part_below}
 use Rattle.cell_faces.proofs.FacedLaws.{faced_not, faced_old, apart_out, faced_own, faced_more, faced_skip}
 
 -- ---- the loop of `is_regular`, at x
@@ -84,21 +84,16 @@ module _ (rows : List ℕ) (w : WellFormed rows) (d : ℕ) (queue : List ℕ) (k
   added : Grown queue known (take known queue ++ new) m₁ q₁ k
   added = subst (λ (t : List ℕ). Grown queue known t m₁ q₁ k) (walk_seen rows w (take known queue) d apart.never) v.grown
 
-  pub walked_room : k - known ≤ length (take (length q₁ - known) (drop known q₁))
-  walked_room = part_room queue known new m₁ q₁ k room added
-
-  pub walked_below : (x : ℕ) → In x (take (k - known) (take (length q₁ - known) (drop known q₁))) → x < length m₁
+  pub walked_below : (x : ℕ) → In x (take (k - known) (drop known q₁)) → x < length m₁
   walked_below = part_below queue known new m₁ q₁ k room added
 
-  pub walked_id : length m₁ ≡ darts rows → (m₂ : List ℕ) → length m₂ ≡ length m₁ →
-      Cleared (take (k - known) (take (length q₁ - known) (drop known q₁))) m₁ m₂ → WalkedId rows d queue known m₂ q₁ low
+  pub walked_id : length m₁ ≡ darts rows → (m₂ : List ℕ) → length m₂ ≡ length m₁ → Cleared (take (k - known) (drop known q₁)) m₁ m₂ →
+      WalkedId rows d queue known m₂ q₁ low
   walked_id n-is m₂ e c =
       let few : k ≤ darts rows = omega (arith, queue_n m₁ q₁ k v.grown.queue) in
-      let c' : Cleared (take (k - known) (drop known q₁)) m₁ m₂ =
-      subst (λ (t : List ℕ). Cleared t m₁ m₂) (part_is queue known new m₁ q₁ k room added) c in
       record {
         id_is = v.low_is ∙ walk_low rows w (take known queue) d apart.never;
-        held = unmarked queue known new m₁ q₁ k room added m₂ c' e;
+        held = unmarked queue known new m₁ q₁ k room added m₂ c e;
         same = old_same queue known new m₁ q₁ k room added;
         rest = drop_more q₁ queue k (darts rows) few v.grown.back;
       }

@@ -109,8 +109,8 @@ module _ (rows : List ℕ) (w : WellFormed rows) (flags marks₀ queue₀ out₀
               ∙ ap (λ (x : List ℕ). l ++ x) (v.rest ∙ ap (λ (i : ℕ). drop i out₀) k);
         }
 
-    pub keeping_marks : (n : ℕ) (marks' : List ℕ) → length marks₀ ≡ n → Zero marks₀ → marks' ≡ wiped n marks → marks' ≡ marks₀
-    keeping_marks n marks' n-is z e = marks_same n marks₀ marks marks' n-is z v.marks_n e
+    pub keeping_marks : (marks' : List ℕ) → Zero marks₀ → marks' ≡ replicate (length marks) 0 → marks' ≡ marks₀
+    keeping_marks marks' z e = marks_same marks₀ marks marks' z v.marks_n e
 
     pub keeping_queue : (n : ℕ) (queue' : List ℕ) → n ≡ darts rows → queue' ≡ wiped n queue → queue' ≡ wiped (darts rows) queue₀
     keeping_queue n queue' n-is e =

@@ -4,14 +4,14 @@
 --   leg_more, leg_done                     the step laws of a leg
 --   Walking, walking_starts, -turn, -ends  the loop of a leg
 --   walked_one, walked_two                 both legs
---   lower_null, lower_less, lower_more     the cases of `lower`
+--   lower_null, lower_real                 the cases of `lower`
 -- Assumes nothing.
 use mathlib.Core.Path.{◌≡◌, refl, sym, ap, ◌∙◌, subst}
 use mathlib.Core.Bool.{Bool, true, false, cond, not, ◌||◌, or-true}
 use mathlib.Core.Logic.{◌⊎◌, inl, inr, ⊎_elim}
 use mathlib.Core.List.{List, [], ◌∷◌}
-use Prim.Native.Nat.{ℕ, zero, suc, ◌+◌, ◌-◌, ◌≤◌, ◌<◌}
-use native.Mathlib.Nat.{le_refl, le_trans, le_of_lt, min-eq_left, min-eq_right}
+use Prim.Native.Nat.{ℕ, zero, suc, ◌+◌, ◌-◌, ◌≤◌, ◌<◌, min}
+use native.Mathlib.Nat.{le_refl, le_trans}
 use native.Mathlib.Omega.{arith}
 use lib.Dec.{eqb}
 use lib.ListN.{length, take, drop, length-append}
@@ -276,10 +276,6 @@ module _ (low x : ℕ) where
   unfolding lower
   lower_null e = simp (eq-eqb x 0 e)
 
-  pub lower_less : (x ≡ 0 → ⊥) → x < low → x ≡ lower low x
+  pub lower_real : (x ≡ 0 → ⊥) → min low x ≡ lower low x
   unfolding lower
-  lower_less n h = simp (ne_eqb x 0 n) (sym (min-eq_right (le_of_lt h)))
-
-  pub lower_more : (x ≡ 0 → ⊥) → low ≤ x → low ≡ lower low x
-  unfolding lower
-  lower_more n h = simp (ne_eqb x 0 n) (sym (min-eq_left h))
+  lower_real n = simp (ne_eqb x 0 n)

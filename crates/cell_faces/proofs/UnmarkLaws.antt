@@ -1,6 +1,6 @@
 -- A queue that has grown, and of which what was added is unmarked again.
 --   unmarked   the marks and the first places are a queue as before
---   part_is, part_room, part_below   what was added, as the part of the queue that the code lends
+--   part_below   what was added, as the part of the queue that the code lends
 -- Assumes nothing.
 use Prim.Native.Nat.{ℕ, zero, suc, ◌-◌, ◌≤◌, ◌<◌}
 use native.Mathlib.Nat.{sub-zero, not-suc-le-zero, le_of_suc-le-suc}
@@ -11,7 +11,7 @@ use mathlib.Core.Logic.{⊎_elim}
 use mathlib.Core.List.Memᴰ
 use mathlib.Core.List.{List, [], ◌∷◌, ◌++◌}
 use lib.Dec.{eqb}
-use lib.ListN.{length, get_or, take, drop, length-drop}
+use lib.ListN.{length, get_or, take, drop}
 use lib.Seq.{length-take-le, take_at, drop_at, take-take, take-nil}
 use Rattle.cell_steps.specs.Search.{In, mem}
 use Rattle.cell_steps.specs.Loans.{flag, Queue, Grown, Cleared}
@@ -72,18 +72,8 @@ module _ (queue : List ℕ) (known : ℕ) (new m₁ q₁ : List ℕ) (k : ℕ) (
           ap (λ (b : Bool). cond b 0 (flag (mem x (old ++ new)))) t ∙ ap flag (mem_left x old new t))
           (bool (mem x new))
 
-  -- what was added, as the first places of the part from `known` on
-  pub part_is : take (k - known) (take (length q₁ - known) (drop known q₁)) ≡ take (k - known) (drop known q₁)
-  part_is =
-      let h : k - known ≤ length q₁ - known = omega (arith, g.queue.room) in
-      take-take (k - known) (length q₁ - known) (drop known q₁) h
-
-  pub part_room : k - known ≤ length (take (length q₁ - known) (drop known q₁))
-  part_room =
-      let h : length q₁ - known ≤ length (drop known q₁) = omega (arith, length-drop known q₁) in
-      omega (arith, length-take-le (length q₁ - known) (drop known q₁) h, g.queue.room)
-
-  pub part_below : (x : ℕ) → In x (take (k - known) (take (length q₁ - known) (drop known q₁))) → x < length m₁
+  -- what was added, as the part of the queue from `known` on, has marks
+  pub part_below : (x : ℕ) → In x (take (k - known) (drop known q₁)) → x < length m₁
   part_below x m =
-      let i : In x new = subst (In x) (part_is ∙ new_same) m in
+      let i : In x new = subst (In x) new_same m in
       g.queue.below x (subst (In x) (sym g.front) (Memᴰ.append_right old i))

@@ -5,7 +5,7 @@ ghost use Rattle.cell_steps.specs.Loans.{Queue, Grown, Scratch};
 ghost use Rattle.cell_faces.specs.Faces.{Walked, insert as insertOf, lower as lowerOf, leg as legOf};
 
 use cell_scratch::steps::push;
-use map_betas::betas::beta_at;
+use map_betas::rows::Rows;
 
 // Where a leg stands: how many darts are marked, its two darts, and the least so far.
 #[derive(Clone, Copy)]
@@ -35,40 +35,27 @@ pub fn lower(low: u32, x: u32) -> u32
     if x == 0 {
         return low;
     }
-    if x < low {
-        return x;
-    }
-    low
+    low.min(x)
 }
 
 // A leg of the walk: l by beta i and r by beta j, while one of them is new.
-pub fn leg(
-    rows: &[u32],
-    marks: &mut [u8],
-    queue: &mut [u32],
-    i: u32,
-    j: u32,
-    start: Walker,
-) -> Walker
-    requires { Scratch rows.now marks.old queue.old × (i < 4) × (j < 4) × (start.l < darts rows.now) × (start.r < darts rows.now)
-        × Queue marks.old queue.old start.k }
-    ensures { Walked (legOf rows.now i j (darts rows.now)
+pub fn leg(rows: Rows, marks: &mut [u8], queue: &mut [u32], i: u32, j: u32, start: Walker) -> Walker
+    requires { Scratch rows.list.now marks.old queue.old × (i < 4) × (j < 4) × (start.l < darts rows.list.now)
+        × (start.r < darts rows.list.now) × Queue marks.old queue.old start.k }
+    ensures { Walked (legOf rows.entry.list.now i j (darts rows.entry.list.now)
         (record { seen = take start.k queue.old; l = start.l; r = start.r; low = start.low }))
         queue.old start.k marks.new queue.new result.k result.l result.r result.low }
 {
-    let mut k = start.k;
-    let mut l = start.l;
-    let mut r = start.r;
-    let mut low = start.low;
+    let mut at = start;
+    // Stays: the leg ends where both darts are known, so no range has it.
     loop {
-        let more = insert(marks, queue, k, l, r);
-        if more <= k {
-            return Walker { k, l, r, low };
+        let more = insert(marks, queue, at.k, at.l, at.r);
+        if more <= at.k {
+            return at;
         }
-        k = more;
-        l = beta_at(rows, i, l);
-        r = beta_at(rows, j, r);
-        low = lower(low, l);
-        low = lower(low, r);
+        let l = rows.beta(i, at.l);
+        let r = rows.beta(j, at.r);
+        let low = lower(lower(at.low, l), r);
+        at = Walker { k: more, l, r, low };
     }
 }

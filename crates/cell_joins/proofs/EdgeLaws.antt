@@ -8,7 +8,7 @@ use Prim.Native.Nat.{ℕ, ◌+◌, ◌-◌, ◌<◌}
 use native.Mathlib.Omega.{arith}
 use mathlib.Core.Path.{◌≡◌, refl, sym, ap, ◌∙◌, subst}
 use mathlib.Core.Logic.{◌≢◌, inl, inr, ⊎_elim}
-use mathlib.Core.List.{List, [], ◌∷◌, ◌++◌, append_assoc, append-nil}
+use mathlib.Core.List.{List, [], ◌∷◌, ◌++◌, append_assoc}
 use mathlib.Core.List.Memᴰ
 use lib.ListN.{length, take, drop, length-append}
 use Rattle.map_betas.specs.Betas.{beta, darts}
@@ -25,7 +25,7 @@ use Rattle.cell_steps.proofs.TurnLaws.{drop_more}
 use Rattle.cell_edges.specs.Arms.{arm_of, end_of, others, edge_walk}
 use Rattle.cell_edges.proofs.ArmLaws.{Over, others_round, others_open}
 use Rattle.cell_edges.proofs.WalkLaws.{walk_once}
-use Rattle.cell_edges.proofs.AlongLaws.{Along, along_starts, along_on, along_next, along_turn, along_ends}
+use Rattle.cell_edges.proofs.AlongLaws.{Along, along_on, along_next, along_turn, along_ends}
 use Rattle.cell_joins.specs.Joins.{Whole, Joined}
 use Rattle.cell_joins.proofs.PushLaws.{grown_both}
 
@@ -42,19 +42,6 @@ pub record Following (rows : List ℕ) (i d : ℕ) (marks₀ queue₀ : List ℕ
   pub held : Queue marks queue k
 
 module _ (rows : List ℕ) (w : WellFormed rows) (i d : ℕ) (lt : d < darts rows) (i-edge : In i edge) (marks₀ queue₀ : List ℕ) (k₀ : ℕ) where
-  pub following_starts : Queue marks₀ queue₀ k₀ → Following rows i d marks₀ queue₀ k₀ marks₀ queue₀ k₀ d i
-  following_starts q =
-      record {
-        seen = [];
-        along = along_starts rows w i d lt i-edge;
-        marks_n = refl;
-        queue_same = refl;
-        front = sym (append-nil (take k₀ queue₀));
-        back = refl;
-        counted = omega arith;
-        held = q;
-      }
-
   module _ (marks queue : List ℕ) (k x by y : ℕ) (v : Following rows i d marks₀ queue₀ k₀ marks queue k x by) (y-is : y ≡ beta rows by x) where
     module _ (n : y ≢ 0) (o : y ≢ d) where
       pub following_on : k < darts rows + k₀

@@ -3,23 +3,21 @@
 --   Enters   it is neither, and now the queue's last
 --   pushed   one of the two
 --   grown_there  what was there is there
---   absent_unmarked, unmarked_absent   a dart has no mark exactly where it is not there
---   push_last, push_adds   a push of such a dart
+--   push_adds    a dart without a mark put behind the queue, where the null dart is there
 --   grown_both   two growths of the queue, one after the other
 -- Assumes nothing.
-use Prim.Native.Nat.{ℕ, ◌+◌, ◌≤◌, ◌<◌}
+use Prim.Native.Nat.{ℕ, ◌≤◌, ◌<◌}
 use native.Mathlib.Nat.{le_trans}
 use native.Mathlib.Omega.{arith}
-use mathlib.Core.Path.{◌≡◌, sym, ap, ◌∙◌, subst}
+use mathlib.Core.Path.{◌≡◌, sym, ap, ◌∙◌}
 use mathlib.Core.Logic.{◌⊎◌, inl, inr}
 use mathlib.Core.List.Memᴰ
 use mathlib.Core.List.{List, [], ◌∷◌, ◌++◌}
-use lib.ListN.{length, get_or, take, set, length-append}
-use lib.Seq.{length-take-le, drop-set-lt}
-use Rattle.cell_steps.specs.Search.{In, mem, add}
-use Rattle.cell_steps.specs.Loans.{flag, Queue, Grown}
-use Rattle.cell_steps.proofs.Lists.{not_mem, mem_not}
-use Rattle.cell_steps.proofs.QueueLaws.{flag_zero, front, push_queue, add_new}
+use lib.ListN.{length, get_or, take, length-append}
+use lib.Seq.{length-take-le}
+use Rattle.cell_steps.specs.Search.{In, add}
+use Rattle.cell_steps.specs.Loans.{Queue, Grown}
+use Rattle.cell_steps.proofs.QueueLaws.{unmarked_absent, push_added}
 use Rattle.cell_steps.proofs.SearchLaws.{Added, null, old, new, added, added_ext, ext_in}
 use Rattle.cell_steps.proofs.TurnLaws.{drop_more}
 
@@ -68,31 +66,8 @@ pub grown_there : (queue : List ℕ) (k x : ℕ) (marks' queue' : List ℕ) (r y
     In y (take k queue) → In y (take r queue')
 grown_there queue k x marks' queue' r y g m = rw g.front (ext_in (added_ext (added (take k queue) x)) m)
 
-module _ (marks queue : List ℕ) (k x : ℕ) (q : Queue marks queue k) (h : x < length marks) where
-  -- a dart that is not there has no mark
-  pub absent_unmarked : (In x (take k queue) → ⊥) → get_or marks x 0 ≡ 0
-  absent_unmarked n = q.flags x h ∙ ap flag (mem_not x (take k queue) n)
-
-  -- and one that has none is not there
-  pub unmarked_absent : get_or marks x 0 ≡ 0 → In x (take k queue) → ⊥
-  unmarked_absent e = not_mem x (take k queue) (flag_zero (mem x (take k queue)) (sym (q.flags x h) ∙ e))
-
-  pub push_last : length marks ≤ length queue → (In x (take k queue) → ⊥) →
-      Grown queue k (take k queue ++ (x ∷ [])) (set marks x 1) (set queue k x) (k + 1)
-  push_last w n =
-      let e = absent_unmarked n in
-      record {
-        front = front marks queue k x q h e w;
-        back = drop-set-lt (k + 1) queue k x (omega arith);
-        more = omega arith;
-        queue = push_queue marks queue k x q h e w;
-      }
-
--- where the null dart is there, a push is what `add` adds
+-- where the null dart is there, a dart put behind the queue where it was not is what `add` adds
 pub push_adds : (marks queue : List ℕ) (k x : ℕ) → Queue marks queue k → x < length marks → In 0 (take k queue) → get_or marks x 0 ≡ 0 →
     (marks' queue' : List ℕ) (r : ℕ) → Grown queue k (take k queue ++ (x ∷ [])) marks' queue' r → Grown queue k (add (take k queue) x) marks' queue' r
-push_adds marks queue k x q h z e marks' queue' r g =
-    let n = unmarked_absent marks queue k x q h e in
-    subst (λ (l : List ℕ). Grown queue k l marks' queue' r)
-    (sym (add_new (take k queue) x (λ o. n (Memᴰ.cast o z)) (mem_not x (take k queue) n)))
-    g
+push_adds marks queue k x q h z e =
+    push_added marks queue k x q h e (λ o. unmarked_absent marks queue k x q h e (Memᴰ.cast o z))

@@ -6,8 +6,8 @@ ghost use Rattle.cell_steps.specs.Search.{In, NoRep};
 ghost use Rattle.cell_steps.specs.Loans.{Scratch, Queue, Grown};
 ghost use Rattle.cell_edges.specs.Arms.{arm_of, end_of, others};
 
-use crate::meet::push;
-use map_betas::betas::beta_at;
+use cell_scratch::steps::put;
+use map_betas::rows::Rows;
 
 // How many darts the queue has, and what ended the arm: null, or the dart that it began with.
 #[derive(Clone, Copy)]
@@ -16,39 +16,34 @@ struct Followed {
     end: u32,
 }
 
+// Stays: `walk_arm` of cell_edges goes the same way, but keeps a least dart and a count; one loop for both would take a closure and a law of its calls.
 // Follows beta 2 and beta 3 in turn from d, beta i first, up to null or d, and puts what it meets behind the queue.
-fn follow_arm(
-    rows: &[u32],
-    marks: &mut [u8],
-    queue: &mut [u32],
-    k: usize,
-    d: u32,
-    i: u32,
-) -> Followed
-    requires { Scratch rows.now marks.old queue.old × Queue marks.old queue.old k × (d < darts rows.now) × In i edge
-        × NoRep (take k queue.old ++ arm_of rows.now i d) }
-    ensures { Grown queue.old k (take k queue.old ++ arm_of rows.now i d)
-        marks.new queue.new result.count × (result.end ≡ end_of rows.now i d) }
+fn follow_arm(rows: Rows, marks: &mut [u8], queue: &mut [u32], k: usize, d: u32, i: u32) -> Followed
+    requires { Scratch rows.list.now marks.old queue.old × Queue marks.old queue.old k × (d < darts rows.list.now) × In i edge
+        × NoRep (take k queue.old ++ arm_of rows.list.now i d) }
+    ensures { Grown queue.old k (take k queue.old ++ arm_of rows.entry.list.now i d)
+        marks.new queue.new result.count × (result.end ≡ end_of rows.entry.list.now i d) }
 {
     let mut count = k;
     let mut x = d;
     let mut by = i;
+    // Stays: the arm ends where null or d comes, so no range has it.
     loop {
-        x = beta_at(rows, by, x);
+        x = rows.beta(by, x);
         if x == 0 || x == d {
             return Followed { count, end: x };
         }
-        push(marks, queue, count, x);
+        put(marks, queue, count, x);
         count += 1;
         by = 5 - by;
     }
 }
 
 // Puts the other darts of the edge of d behind the queue, and returns how many there are now.
-pub fn join_edge(rows: &[u32], marks: &mut [u8], queue: &mut [u32], k: usize, d: u32) -> usize
-    requires { Scratch rows.now marks.old queue.old × Queue marks.old queue.old k × (d < darts rows.now)
-        × NoRep (take k queue.old ++ others rows.now d) }
-    ensures { Grown queue.old k (take k queue.old ++ others rows.now d) marks.new queue.new result }
+pub fn join_edge(rows: Rows, marks: &mut [u8], queue: &mut [u32], k: usize, d: u32) -> usize
+    requires { Scratch rows.list.now marks.old queue.old × Queue marks.old queue.old k × (d < darts rows.list.now)
+        × NoRep (take k queue.old ++ others rows.list.now d) }
+    ensures { Grown queue.old k (take k queue.old ++ others rows.entry.list.now d) marks.new queue.new result }
 {
     let first = follow_arm(rows, marks, queue, k, d, 2);
     if first.end != 0 {

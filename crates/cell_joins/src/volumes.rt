@@ -7,7 +7,7 @@ ghost use Rattle.cell_steps.specs.Loans.{Scratch, Queue, Grown};
 ghost use Rattle.cell_joins.specs.Joins.{ended};
 
 use crate::meet::meet;
-use map_betas::betas::beta_at;
+use map_betas::rows::Rows;
 
 // How many darts the queue has, and whether one of those visited has no beta 1 image.
 #[derive(Clone, Copy)]
@@ -17,36 +17,37 @@ pub struct Flooded {
 }
 
 // Visits d by beta 1 and beta 2.
-fn visit_forward(rows: &[u32], marks: &mut [u8], queue: &mut [u32], count: usize, d: u32) -> usize
-    requires { Scratch rows.now marks.old queue.old × Queue marks.old queue.old count × (d < darts rows.now) × In 0 (take count queue.old) }
-    ensures { Grown queue.old count (visit rows.now volume_linear d (take count queue.old)) marks.new
+fn visit_forward(rows: Rows, marks: &mut [u8], queue: &mut [u32], count: usize, d: u32) -> usize
+    requires { Scratch rows.list.now marks.old queue.old × Queue marks.old queue.old count × (d < darts rows.list.now) × In 0 (take count queue.old) }
+    ensures { Grown queue.old count (visit rows.entry.list.now volume_linear d (take count queue.old)) marks.new
         queue.new result }
 {
-    let x = beta_at(rows, 1, d);
-    let y = beta_at(rows, 2, d);
+    let x = rows.beta(1, d);
+    let y = rows.beta(2, d);
     let k = meet(marks, queue, count, x);
     meet(marks, queue, k, y)
 }
 
 // Visits the darts of the queue by beta 1 and beta 2 from the place `from` on, those that it finds too.
 pub fn flood_forward(
-    rows: &[u32],
+    rows: Rows,
     marks: &mut [u8],
     queue: &mut [u32],
     from: usize,
     seeds: usize,
 ) -> Flooded
-    requires { Scratch rows.now marks.old queue.old × Queue marks.old queue.old seeds × (from ≤ seeds) × In 0 (take seeds queue.old) }
-    ensures { Grown queue.old seeds (search rows.now volume_linear (darts rows.now - from) from
+    requires { Scratch rows.list.now marks.old queue.old × Queue marks.old queue.old seeds × (from ≤ seeds) × In 0 (take seeds queue.old) }
+    ensures { Grown queue.old seeds (search rows.entry.list.now volume_linear (darts rows.entry.list.now - from) from
         (take seeds queue.old)) marks.new queue.new result.count
-        × (result.ends ≡ ended rows.now (take result.count queue.new) from (result.count - from)) }
+        × (result.ends ≡ ended rows.entry.list.now (take result.count queue.new) from (result.count - from)) }
 {
     let mut k = from;
     let mut count = seeds;
     let mut ends = false;
+    // Stays: the loop's end moves as the queue grows, so no range has it.
     while k < count {
         let e = queue[k];
-        if beta_at(rows, 1, e) == 0 {
+        if rows.beta(1, e) == 0 {
             ends = true;
         }
         count = visit_forward(rows, marks, queue, count, e);

@@ -2,3 +2,4 @@
 #![tactic(auto)]
 
 pub mod basic_ops;
+pub mod listings;

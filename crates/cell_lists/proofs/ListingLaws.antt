@@ -14,7 +14,7 @@ use native.Mathlib.Nat.{le_refl}
 use native.Mathlib.Numerals.{add-one}
 use native.Mathlib.Omega.{arith}
 use lib.Dec.{eqb, ltb}
-use lib.ListN.{length, get_or, take, drop, set, replicate, take-append-drop, drop_of_length-le}
+use lib.ListN.{length, get_or, take, drop, set, replicate, take-append-drop}
 use lib.Seq.{length-take-le, take-suc-set, drop-set-lt}
 use borrow.Author.Tests.{eqb-true, eqb-false, lt-ltb, le-ltb}
 use Rattle.cell_lists.specs.CellLists.{cells_from, cells_by, cell_list, Put}
@@ -26,7 +26,7 @@ use Rattle.cell_steps.specs.Calls.{wiped}
 use Rattle.cell_steps.specs.Search.{In, mem, Bounded, Symmetric}
 use Rattle.cell_steps.proofs.Lists.{bool, mem_in, not_mem}
 use Rattle.cell_steps.proofs.TurnLaws.{drop_more, seeded}
-use Rattle.cell_steps.proofs.ScratchLaws.{zero_split}
+use Rattle.cell_steps.proofs.ScratchLaws.{zeros_are}
 use Rattle.cell_lists.proofs.KnownLaws.{Known, known_closed, known_starts, known_old, known_same}
 use Rattle.cell_lists.proofs.KnownLaws.{known_new, known_more, cells_flags, cells_other, cells_own}
 
@@ -101,7 +101,8 @@ module _ (rows steps flags : List ℕ) (b : Bounded rows) (y : Symmetric rows st
         own =
             ⊎_elim
             (λ t.
-            cells_own (ident rows steps) flags d (darts rows - (d + 1)) (eqb-true (get_or flags d 0) 0 t) (known_new rows steps b y d (take found queue) h k e o)
+            cells_own (ident rows steps) flags d (darts rows - (d + 1)) (eqb-true (get_or flags d 0) 0 t)
+            (known_new rows steps b y d (take found queue) h k e o)
             ∙ ap (λ (c : Bool). cond (true && c) (d ∷ []) [] ++ cells_from (ident rows steps) flags (d + 1) (darts rows - (d + 1))) (sym t)
             ∙ grew j.0)
             (λ t.
@@ -184,14 +185,8 @@ module _ (marks queue : List ℕ) where
   pub begun : Zero marks → 0 < length marks → length marks ≤ length queue → Queue (set marks 0 1) (set queue 0 0) 1 × (take 1 (set queue 0 0) ≡ 0 ∷ [])
   begun z h w = (seeded 0 marks queue h w z, take-suc-set queue 0 0 (omega arith))
 
-pub marks_same : (n : ℕ) (marks₀ marks marks' : List ℕ) → length marks₀ ≡ n → Zero marks₀ → length marks ≡ length marks₀ → marks' ≡ wiped n marks →
-    marks' ≡ marks₀
-marks_same n marks₀ marks marks' n-is z e w =
-    let a : length marks ≤ n = omega arith in
-    let b : length marks₀ ≤ n = omega arith in
-    w
-    ∙ ap (λ (t : List ℕ). replicate n 0 ++ t) (drop_of_length-le marks a ∙ sym (drop_of_length-le marks₀ b))
-    ∙ zero_split marks₀ n z (omega arith)
+pub marks_same : (marks₀ marks marks' : List ℕ) → Zero marks₀ → length marks ≡ length marks₀ → marks' ≡ replicate (length marks) 0 → marks' ≡ marks₀
+marks_same marks₀ marks marks' z e w = w ∙ ap (λ (k : ℕ). replicate k 0) e ∙ zeros_are marks₀ z
 
 pub queue_wiped : (n found : ℕ) (queue₀ queue queue' : List ℕ) → 0 < n → found ≤ n → drop found queue ≡ drop found (set queue₀ 0 0) →
     queue' ≡ wiped n queue → queue' ≡ wiped n queue₀

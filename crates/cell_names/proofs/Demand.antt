@@ -6,14 +6,13 @@
 --   call_listed          a list's call writes exactly the darts that are not unused and are their own identifier, ascending
 --   id_refused, orbit_refused, custom_refused, list_refused   a refused call leaves every loan
 -- Each but the last for a map, loans that are long enough, and a dart of it, in use or not. Assumes nothing.
-use Rattle.std.specs.Prelude.{◌≡◌, ℕ, ◌<◌, ◌≤◌, Bool, true, false, cond, ◌≢◌, ◌↔◌, List, [], ◌∷◌, length}
+use Rattle.std.specs.Prelude.{◌≡◌, ℕ, ◌<◌, ◌≤◌, true, false, cond, ◌≢◌, ◌↔◌, List, [], ◌∷◌, length, is_ok, Ok, Err}
 use native.Mathlib.Omega.{arith}
-use mathlib.Core.Path.{refl, ap, ◌∙◌}
-use Rattle.map_betas.specs.declared.error.Answer.{Answer}
-use Rattle.map_betas.specs.declared.error.Answer.TheVariants.{Done}
+use mathlib.Core.Path.{refl, sym, ap, ◌∙◌}
+use mathlib.Core.Bool.{true≢false}
 use Rattle.map_betas.specs.declared.loans.Loans.{Loans}
 use Rattle.map_betas.specs.Betas.{darts}
-use Rattle.map_betas.specs.Answers.{pass, is_done, and_then, outcome, behind}
+use Rattle.map_betas.specs.Answers.{pass, Outcome, outcome, behind, Answer, done, Test}
 use Rattle.map_betas.specs.Maps.{WellFormed, unused, Map}
 use Rattle.map_betas.specs.Guards.{scratch_of, orbit_loans, list_loans, guard_of, Lent, Dart}
 use Rattle.map_betas.proofs.AnswerLaws.{refused_leaves}
@@ -36,6 +35,11 @@ use Rattle.cell_names.specs.Cells.{is_face, identified, ident_of, list_of}
 use Rattle.cell_names.specs.Calls.{id_guard, id_done, id_call, list_guard, list_done, list_call}
 use Rattle.cell_names.proofs.IdentifierLaws.{Least, vertex_least, edge_least, volume_least, listed_exactly, listed_ascending}
 use Rattle.cell_names.proofs.IdentifierLaws.{vertex_size, edge_size, volume_size, free_ident, free_size, free_orbit, free_custom, null_ident}
+use Rattle.std.specs.Result.{result_and}
+
+passed : {L : Type 0} (g : Test) (loans : L) (o : Outcome L) → is_ok g ≡ true → behind g loans o ≡ o
+passed (Ok x) loans o t = refl
+passed (Err w) loans o t = absurd (true≢false (sym t))
 
 module _ (rows flags marks : List ℕ) (map : Map rows flags) (m : darts rows ≤ length marks) where
   w : WellFormed rows
@@ -58,15 +62,15 @@ module _ (rows flags marks : List ℕ) (map : Map rows flags) (m : darts rows �
         (record { marks = m; queue = q; output = omega arith; vertices = omega arith; coordinates = omega arith }) d h
 
     abbrev says : Cell → Answer
-    says c = Done c.least c.count
+    says c = done c.least c.count
 
     answered : (class : Class) → (id_call rows marks queue flags class d).answer ≡ says (identified class rows d)
     unfolding id_call
-    answered class = ap (λ (g : Answer). (behind g (marks, queue) (id_done rows marks queue class d)).answer) id_passes
+    answered class = ap (λ (g : Test). (behind g (marks, queue) (id_done rows marks queue class d)).answer) id_passes
 
     -- the answer x with k: x is the least dart of d's cell, and k the number of its darts
     abbrev pub Told : Class → List (List ℕ) → Type 0
-    Told class Φ = (x : ℕ) × (k : ℕ) × ((id_call rows marks queue flags class d).answer ≡ Done x k) × Least rows Φ d x × (d ≢ 0 → Counts rows Φ d k)
+    Told class Φ = (x : ℕ) × (k : ℕ) × ((id_call rows marks queue flags class d).answer ≡ done x k) × Least rows Φ d x × (d ≢ 0 → Counts rows Φ d k)
 
     pub call_vertex_least : Told Vertex vertexΦ
     call_vertex_least =
@@ -79,16 +83,16 @@ module _ (rows flags marks : List ℕ) (map : Map rows flags) (m : darts rows �
     call_volume_least =
         ((identified Volume rows d).least, (identified Volume rows d).count, answered Volume, volume_least rows w d h, volume_size rows w d h)
 
-    pub call_null_id : d ≡ 0 → (class : Class) → (id_call rows marks queue flags class d).answer ≡ Done 0 0
+    pub call_null_id : d ≡ 0 → (class : Class) → (id_call rows marks queue flags class d).answer ≡ done 0 0
     call_null_id z class = answered class ∙ ap (λ (x : ℕ). says (identified class rows x)) z ∙ ap says (null_ident rows w class)
 
     -- an unused dart is its own identifier, of every class, and alone in its cells
-    pub call_unused_id : unused flags d ≡ true → (class : Class) → (id_call rows marks queue flags class d).answer ≡ Done d (cond (is_face class) 0 1)
+    pub call_unused_id : unused flags d ≡ true → (class : Class) → (id_call rows marks queue flags class d).answer ≡ done d (cond (is_face class) 0 1)
     call_unused_id u class =
         let f = map.free d u in
         let e = free_ident rows w d f class in
         let k = free_size rows w d f (flag_unused flags d u).0 class in
-        answered class ∙ (λ t. Done (e t) (k t))
+        answered class ∙ (λ t. done (e t) (k t))
 
   -- ---- orbits
 
@@ -101,9 +105,9 @@ module _ (rows flags marks : List ℕ) (map : Map rows flags) (m : darts rows �
 
     is_done_lem : orbit_call rows marks output flags p d ≡ orbit_done rows marks output (steps_of p) d
     unfolding orbit_call
-    is_done_lem = ap (λ (g : Answer). behind g (marks, output) (orbit_done rows marks output (steps_of p) d)) orbit_passes
+    is_done_lem = ap (λ (g : Test). behind g (marks, output) (orbit_done rows marks output (steps_of p) d)) orbit_passes
 
-    pub call_orbit : (l : List ℕ) × (orbit_call rows marks output flags p d ≡ outcome (Done 0 (length l)) (wiped (darts rows) marks, headed l output))
+    pub call_orbit : (l : List ℕ) × (orbit_call rows marks output flags p d ≡ outcome (done 0 (length l)) (wiped (darts rows) marks, headed l output))
         × Ext (d ∷ []) l × NoRep l × ((x : ℕ) → In x l ↔ Reach rows (steps_of p) d x)
     call_orbit = (
       orbit rows (steps_of p) d,
@@ -115,19 +119,19 @@ module _ (rows flags marks : List ℕ) (map : Map rows flags) (m : darts rows �
 
     -- the orbits of an unused dart are itself alone
     pub call_unused_orbit : unused flags d ≡ true →
-        orbit_call rows marks output flags p d ≡ outcome (Done 0 1) (wiped (darts rows) marks, headed (d ∷ []) output)
+        orbit_call rows marks output flags p d ≡ outcome (done 0 1) (wiped (darts rows) marks, headed (d ∷ []) output)
     call_unused_orbit u =
         is_done_lem
-        ∙ ap (λ (l : List ℕ). outcome (Done 0 (length l)) (wiped (darts rows) marks, headed l output)) (free_orbit rows w d (map.free d u) p)
+        ∙ ap (λ (l : List ℕ). outcome (done 0 (length l)) (wiped (darts rows) marks, headed l output)) (free_orbit rows w d (map.free d u) p)
 
     -- by lent betas too, whatever they are
-    pub call_unused_custom : unused flags d ≡ true → (betas : List ℕ) → is_done (custom_test betas) ≡ true →
-        custom_call rows marks output flags betas d ≡ outcome (Done 0 1) (wiped (darts rows) marks, headed (d ∷ []) output)
+    pub call_unused_custom : unused flags d ≡ true → (betas : List ℕ) → is_ok (custom_test betas) ≡ true →
+        custom_call rows marks output flags betas d ≡ outcome (done 0 1) (wiped (darts rows) marks, headed (d ∷ []) output)
     unfolding custom_call
     call_unused_custom u betas t =
-        ap (λ (g : Answer). behind (and_then g (custom_test betas)) (marks, output) (orbit_done rows marks output betas d)) orbit_passes
-        ∙ ap (λ (b : Bool). cond b (orbit_done rows marks output betas d) (outcome (custom_test betas) (marks, output))) t
-        ∙ ap (λ (l : List ℕ). outcome (Done 0 (length l)) (wiped (darts rows) marks, headed l output)) (free_custom rows w d (map.free d u) betas t)
+        ap (λ (g : Test). behind (result_and g (custom_test betas)) (marks, output) (orbit_done rows marks output betas d)) orbit_passes
+        ∙ passed (custom_test betas) (marks, output) (orbit_done rows marks output betas d) t
+        ∙ ap (λ (l : List ℕ). outcome (done 0 (length l)) (wiped (darts rows) marks, headed l output)) (free_custom rows w d (map.free d u) betas t)
 
   -- ---- lists
 
@@ -140,12 +144,12 @@ module _ (rows flags marks : List ℕ) (map : Map rows flags) (m : darts rows �
 
     pub call_listed : (class : Class) → (l : List ℕ)
         × (list_call rows marks queue output flags class
-        ≡ outcome (Done 0 (length l)) (wiped (darts rows) marks, wiped (darts rows) queue, headed l output))
+        ≡ outcome (done 0 (length l)) (wiped (darts rows) marks, wiped (darts rows) queue, headed l output))
         × Ascending l × ((x : ℕ) → In x l ↔ ((1 ≤ x) × (x < darts rows) × Own (ident_of class rows) flags x))
     unfolding list_call
     call_listed class = (
       list_of class rows flags,
-      ap (λ (g : Answer). behind g (marks, queue, output) (list_done rows marks queue output flags class)) list_passes,
+      ap (λ (g : Test). behind g (marks, queue, output) (list_done rows marks queue output flags class)) list_passes,
       listed_ascending rows flags class,
       listed_exactly rows flags class,
     )
@@ -153,23 +157,23 @@ module _ (rows flags marks : List ℕ) (map : Map rows flags) (m : darts rows �
 -- ---- a refused call, whatever it is lent
 
 module _ (rows marks flags : List ℕ) where
-  pub id_refused : (queue : List ℕ) (class : Class) (d : ℕ) → is_done (id_call rows marks queue flags class d).answer ≡ false →
+  pub id_refused : (queue : List ℕ) (class : Class) (d : ℕ) → is_ok (id_call rows marks queue flags class d).answer ≡ false →
       (id_call rows marks queue flags class d).loans ≡ (marks, queue)
   unfolding id_call
   id_refused queue class d = refused_leaves (id_guard rows marks queue flags d) (marks, queue) (id_done rows marks queue class d) refl
 
-  pub orbit_refused : (output : List ℕ) (p : OrbitPolicy) (d : ℕ) → is_done (orbit_call rows marks output flags p d).answer ≡ false →
+  pub orbit_refused : (output : List ℕ) (p : OrbitPolicy) (d : ℕ) → is_ok (orbit_call rows marks output flags p d).answer ≡ false →
       (orbit_call rows marks output flags p d).loans ≡ (marks, output)
   unfolding orbit_call
   orbit_refused output p d = refused_leaves (orbit_guard rows marks output flags d) (marks, output) (orbit_done rows marks output (steps_of p) d) refl
 
-  pub custom_refused : (output betas : List ℕ) (d : ℕ) → is_done (custom_call rows marks output flags betas d).answer ≡ false →
+  pub custom_refused : (output betas : List ℕ) (d : ℕ) → is_ok (custom_call rows marks output flags betas d).answer ≡ false →
       (custom_call rows marks output flags betas d).loans ≡ (marks, output)
   unfolding custom_call
   custom_refused output betas d =
-      refused_leaves (and_then (orbit_guard rows marks output flags d) (custom_test betas)) (marks, output) (orbit_done rows marks output betas d) refl
+      refused_leaves (result_and (orbit_guard rows marks output flags d) (custom_test betas)) (marks, output) (orbit_done rows marks output betas d) refl
 
-  pub list_refused : (queue output : List ℕ) (class : Class) → is_done (list_call rows marks queue output flags class).answer ≡ false →
+  pub list_refused : (queue output : List ℕ) (class : Class) → is_ok (list_call rows marks queue output flags class).answer ≡ false →
       (list_call rows marks queue output flags class).loans ≡ (marks, queue, output)
   unfolding list_call
   list_refused queue output class =

@@ -1,9 +1,9 @@
 -- Worked examples, computed: the lists of a closed triangle and of a cube, and calls, done and refused. Assumes nothing.
-use Rattle.std.specs.Prelude.{◌≡◌, ℕ, List, [], ◌∷◌, replicate}
+use Rattle.std.specs.Prelude.{◌≡◌, ℕ, List, [], ◌∷◌, replicate, Err}
 use mathlib.Core.Path.{refl}
-use Rattle.map_betas.specs.declared.error.Answer.TheVariants.{Done, Refused}
+use Rattle.map_betas.specs.declared.error.Loan.TheVariants.{Queue, Flags}
 use Rattle.map_betas.specs.declared.error.Refusal.TheVariants.{ShortLoan, NotAMap, BadDart}
-use Rattle.map_betas.specs.Answers.{outcome}
+use Rattle.map_betas.specs.Answers.{outcome, done}
 use Rattle.map_betas.specs.Maps.{bad_size, breaks, breach_at, free_at, unused, bound, first_breach, map_test}
 use Rattle.map_betas.specs.Guards.{loan_test, no_dart, map_guard, guard_of}
 use Rattle.cell_steps.specs.Steps.{image}
@@ -45,54 +45,54 @@ bent = 0 ∷ 0 ∷ 0 ∷ 0 ∷ 0 ∷ 0 ∷ 3 ∷ 0 ∷ 0 ∷ 0 ∷ 0 ∷ 0 ∷ 0
 
 -- a dart that is unused is not listed, and the list's own length is the count; the flag of dart 0 says nothing
 unused_call : list_call bent (7 ∷ 7 ∷ 7 ∷ 7 ∷ []) (8 ∷ 8 ∷ 8 ∷ 8 ∷ 8 ∷ []) (9 ∷ 9 ∷ 9 ∷ 9 ∷ []) (1 ∷ 0 ∷ 1 ∷ 0 ∷ []) Vertex
-    ≡ outcome (Done 0 2) (0 ∷ 0 ∷ 0 ∷ 0 ∷ [], 0 ∷ 0 ∷ 0 ∷ 0 ∷ 8 ∷ [], 1 ∷ 3 ∷ 9 ∷ 9 ∷ [])
+    ≡ outcome (done 0 2) (0 ∷ 0 ∷ 0 ∷ 0 ∷ [], 0 ∷ 0 ∷ 0 ∷ 0 ∷ 8 ∷ [], 1 ∷ 3 ∷ 9 ∷ 9 ∷ [])
 unfolding bent image mem add visit search orbit least_from least ident cells_from cells_by bad_size breaks breach_at free_at unused bound first_breach map_test loan_test
     no_dart map_guard guard_of list_call
 unused_call = refl
 
 -- it is its own identifier, and alone
 unused_id : id_call bent (7 ∷ 7 ∷ 7 ∷ 7 ∷ []) (8 ∷ 8 ∷ 8 ∷ 8 ∷ []) (0 ∷ 0 ∷ 1 ∷ 0 ∷ []) Volume 2
-    ≡ outcome (Done 2 1) (0 ∷ 0 ∷ 0 ∷ 0 ∷ [], 0 ∷ 0 ∷ 0 ∷ 0 ∷ [])
+    ≡ outcome (done 2 1) (0 ∷ 0 ∷ 0 ∷ 0 ∷ [], 0 ∷ 0 ∷ 0 ∷ 0 ∷ [])
 unfolding bent image mem add visit search orbit least_from least ident size_of cells_from cells_by bad_size breaks breach_at free_at unused bound first_breach
     map_test loan_test no_dart map_guard guard_of id_call
 unused_id = refl
 
 -- unused darts that are linked: the least is named
 bound_call : list_call triangle (7 ∷ 7 ∷ 7 ∷ 7 ∷ []) (8 ∷ 8 ∷ 8 ∷ 8 ∷ []) (9 ∷ 9 ∷ 9 ∷ 9 ∷ []) (0 ∷ 0 ∷ 1 ∷ 1 ∷ []) Vertex
-    ≡ outcome (Refused (NotAMap 4 2)) (7 ∷ 7 ∷ 7 ∷ 7 ∷ [], 8 ∷ 8 ∷ 8 ∷ 8 ∷ [], 9 ∷ 9 ∷ 9 ∷ 9 ∷ [])
+    ≡ outcome (Err (NotAMap 4 2)) (7 ∷ 7 ∷ 7 ∷ 7 ∷ [], 8 ∷ 8 ∷ 8 ∷ 8 ∷ [], 9 ∷ 9 ∷ 9 ∷ 9 ∷ [])
 unfolding triangle bad_size breaks breach_at free_at unused bound first_breach map_test loan_test map_guard guard_of list_call
 bound_call = refl
 
-id_call_lem : id_call triangle (7 ∷ 7 ∷ 7 ∷ 7 ∷ 7 ∷ []) (8 ∷ 8 ∷ 8 ∷ 8 ∷ []) used Volume 3 ≡ outcome (Done 1 3) (0 ∷ 0 ∷ 0 ∷ 0 ∷ 7 ∷ [], 0 ∷ 0 ∷ 0 ∷ 0 ∷ [])
+id_call_lem : id_call triangle (7 ∷ 7 ∷ 7 ∷ 7 ∷ 7 ∷ []) (8 ∷ 8 ∷ 8 ∷ 8 ∷ []) used Volume 3 ≡ outcome (done 1 3) (0 ∷ 0 ∷ 0 ∷ 0 ∷ 7 ∷ [], 0 ∷ 0 ∷ 0 ∷ 0 ∷ [])
 unfolding triangle image mem add visit search orbit least_from least ident size_of cells_from cells_by bad_size breaks breach_at free_at unused bound first_breach
     map_test loan_test no_dart map_guard guard_of id_call
 id_call_lem = refl
 
-face_call : id_call triangle (7 ∷ 7 ∷ 7 ∷ 7 ∷ []) (8 ∷ 8 ∷ 8 ∷ 8 ∷ []) used Face 2 ≡ outcome (Done 1 0) (0 ∷ 0 ∷ 0 ∷ 0 ∷ [], 0 ∷ 0 ∷ 0 ∷ 0 ∷ [])
+face_call : id_call triangle (7 ∷ 7 ∷ 7 ∷ 7 ∷ []) (8 ∷ 8 ∷ 8 ∷ 8 ∷ []) used Face 2 ≡ outcome (done 1 0) (0 ∷ 0 ∷ 0 ∷ 0 ∷ [], 0 ∷ 0 ∷ 0 ∷ 0 ∷ [])
 unfolding triangle image mem add fresh insert lower turn leg forward backward face_walk face_id bad_size breaks breach_at free_at unused bound first_breach map_test
     loan_test no_dart map_guard guard_of id_call
 face_call = refl
 
-null_call : id_call triangle (7 ∷ 7 ∷ 7 ∷ 7 ∷ []) (8 ∷ 8 ∷ 8 ∷ 8 ∷ []) used Edge 0 ≡ outcome (Done 0 0) (0 ∷ 0 ∷ 0 ∷ 0 ∷ [], 0 ∷ 0 ∷ 0 ∷ 0 ∷ [])
+null_call : id_call triangle (7 ∷ 7 ∷ 7 ∷ 7 ∷ []) (8 ∷ 8 ∷ 8 ∷ 8 ∷ []) used Edge 0 ≡ outcome (done 0 0) (0 ∷ 0 ∷ 0 ∷ 0 ∷ [], 0 ∷ 0 ∷ 0 ∷ 0 ∷ [])
 unfolding triangle image mem add visit search orbit least_from least ident size_of cells_from cells_by bad_size breaks breach_at free_at unused bound first_breach
     map_test loan_test no_dart map_guard guard_of id_call
 null_call = refl
 
 -- refused: the second loan, the fourth, the map, the dart; marks and queue stay as they were
-queue_short : id_call triangle (7 ∷ 7 ∷ 7 ∷ 7 ∷ []) (8 ∷ 8 ∷ []) used Vertex 9 ≡ outcome (Refused (ShortLoan 2)) (7 ∷ 7 ∷ 7 ∷ 7 ∷ [], 8 ∷ 8 ∷ [])
+queue_short : id_call triangle (7 ∷ 7 ∷ 7 ∷ 7 ∷ []) (8 ∷ 8 ∷ []) used Vertex 9 ≡ outcome (Err (ShortLoan Queue)) (7 ∷ 7 ∷ 7 ∷ 7 ∷ [], 8 ∷ 8 ∷ [])
 unfolding triangle bad_size loan_test map_guard guard_of id_call
 queue_short = refl
 
 flags_short : list_call triangle (7 ∷ 7 ∷ 7 ∷ 7 ∷ []) (8 ∷ 8 ∷ 8 ∷ 8 ∷ []) (9 ∷ 9 ∷ 9 ∷ 9 ∷ []) [] Face
-    ≡ outcome (Refused (ShortLoan 4)) (7 ∷ 7 ∷ 7 ∷ 7 ∷ [], 8 ∷ 8 ∷ 8 ∷ 8 ∷ [], 9 ∷ 9 ∷ 9 ∷ 9 ∷ [])
+    ≡ outcome (Err (ShortLoan Flags)) (7 ∷ 7 ∷ 7 ∷ 7 ∷ [], 8 ∷ 8 ∷ 8 ∷ 8 ∷ [], 9 ∷ 9 ∷ 9 ∷ 9 ∷ [])
 unfolding triangle bad_size loan_test map_guard guard_of list_call
 flags_short = refl
 
-no_map : id_call (0 ∷ 0 ∷ 0 ∷ 0 ∷ 0 ∷ 0 ∷ 1 ∷ 0 ∷ []) (7 ∷ 7 ∷ []) (8 ∷ 8 ∷ []) (0 ∷ 1 ∷ []) Edge 5 ≡ outcome (Refused (NotAMap 2 1)) (7 ∷ 7 ∷ [], 8 ∷ 8 ∷ [])
+no_map : id_call (0 ∷ 0 ∷ 0 ∷ 0 ∷ 0 ∷ 0 ∷ 1 ∷ 0 ∷ []) (7 ∷ 7 ∷ []) (8 ∷ 8 ∷ []) (0 ∷ 1 ∷ []) Edge 5 ≡ outcome (Err (NotAMap 2 1)) (7 ∷ 7 ∷ [], 8 ∷ 8 ∷ [])
 unfolding bad_size breaks breach_at free_at unused bound first_breach map_test loan_test map_guard guard_of id_call
 no_map = refl
 
-no_dart_lem : id_call triangle (7 ∷ 7 ∷ 7 ∷ 7 ∷ []) (8 ∷ 8 ∷ 8 ∷ 8 ∷ []) used Face 4 ≡ outcome (Refused (BadDart 1)) (7 ∷ 7 ∷ 7 ∷ 7 ∷ [], 8 ∷ 8 ∷ 8 ∷ 8 ∷ [])
+no_dart_lem : id_call triangle (7 ∷ 7 ∷ 7 ∷ 7 ∷ []) (8 ∷ 8 ∷ 8 ∷ 8 ∷ []) used Face 4 ≡ outcome (Err (BadDart 1)) (7 ∷ 7 ∷ 7 ∷ 7 ∷ [], 8 ∷ 8 ∷ 8 ∷ 8 ∷ [])
 unfolding triangle bad_size breaks breach_at free_at unused bound first_breach map_test loan_test no_dart map_guard guard_of id_call
 no_dart_lem = refl
 

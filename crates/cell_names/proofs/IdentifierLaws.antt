@@ -9,10 +9,9 @@
 --   null_ident                              the identifier of the null dart is 0, with the size 0
 --   listed_exactly, listed_ascending        what a list holds, and that it ascends
 -- Assumes nothing.
-use Rattle.std.specs.Prelude.{◌≡◌, ℕ, ◌<◌, ◌≤◌, true, cond, ◌≢◌, ◌↔◌, List, [], ◌∷◌, length}
+use Rattle.std.specs.Prelude.{◌≡◌, ℕ, ◌<◌, ◌≤◌, true, cond, ◌≢◌, ◌↔◌, List, [], ◌∷◌, length, is_ok}
 use mathlib.Core.Path.{refl, sym, ap, ◌∙◌, subst}
 use Rattle.map_betas.specs.Betas.{darts}
-use Rattle.map_betas.specs.Answers.{is_done}
 use Rattle.map_betas.specs.Maps.{WellFormed, Free}
 use Rattle.cell_steps.specs.declared.policy.OrbitPolicy.{OrbitPolicy}
 use Rattle.cell_steps.specs.declared.policy.OrbitPolicy.TheVariants as policy
@@ -87,7 +86,7 @@ module _ (rows : List ℕ) (w : WellFormed rows) where
   pub free_orbit : (d : ℕ) → Free rows d → (p : OrbitPolicy) → orbit rows (steps_of p) d ≡ d ∷ []
   free_orbit d f p = orbit_alone rows w d f (steps_of p) (step_of p)
 
-  pub free_custom : (d : ℕ) → Free rows d → (betas : List ℕ) → is_done (custom_test betas) ≡ true → orbit rows betas d ≡ d ∷ []
+  pub free_custom : (d : ℕ) → Free rows d → (betas : List ℕ) → is_ok (custom_test betas) ≡ true → orbit rows betas d ≡ d ∷ []
   free_custom d f betas t =
       orbit_alone rows w d f betas (λ c m. let q = at_in m in subst IsStep q.2 ((betas_are betas (custom_done betas t)).each q.0 q.1))
 

@@ -1,27 +1,27 @@
 // The chain of a face by beta 1: whether it is regular, and its darts.
 ghost use Rattle.std.specs.Prelude.{◌≡◌, ◌<◌, take};
 ghost use Rattle.map_betas.specs.Betas.{darts};
-ghost use Rattle.map_betas.specs.Maps.{WellFormed};
 ghost use Rattle.cell_steps.specs.Loans.{Queue, Grown, Scratch};
 ghost use Rattle.cell_faces.specs.Faces.{regular};
 ghost use Rattle.cell_faces.specs.FaceLists.{go_round};
 
 use cell_scratch::steps::push;
-use map_betas::betas::beta_at;
+use map_betas::rows::Rows;
 
 // Whether the chain of d is closed and each of its beta 1 steps is a beta 0 step between the beta 3 images. The chain comes to null or back to d.
-pub fn is_regular(rows: &[u32], d: u32) -> bool
-    requires { WellFormed rows.now × (d < darts rows.now) }
-    ensures { result ≡ regular rows.now d }
+pub fn is_regular(rows: Rows, d: u32) -> bool
+    requires { d < darts rows.list.now }
+    ensures { result ≡ regular rows.entry.list.now d }
 {
     let mut x = d;
+    // Stays: the chain ends at null or at d, so no range has it.
     loop {
-        let y = beta_at(rows, 1, x);
+        let y = rows.beta(1, x);
         if y == 0 {
             return false;
         }
-        let t = beta_at(rows, 3, x);
-        if beta_at(rows, 3, y) != beta_at(rows, 0, t) {
+        let t = rows.beta(3, x);
+        if rows.beta(3, y) != rows.beta(0, t) {
             return false;
         }
         if y == d {
@@ -32,17 +32,18 @@ pub fn is_regular(rows: &[u32], d: u32) -> bool
 }
 
 // Puts the darts of d's chain behind the queue, each with its beta 3 image, from d on until null or once round.
-pub fn go_round(rows: &[u32], marks: &mut [u8], queue: &mut [u32], known: usize, d: u32) -> usize
-    requires { Scratch rows.now marks.old queue.old × (d < darts rows.now) × Queue marks.old queue.old known }
-    ensures { Grown queue.old known (go_round rows.now d (take known queue.old))
+pub fn go_round(rows: Rows, marks: &mut [u8], queue: &mut [u32], known: usize, d: u32) -> usize
+    requires { Scratch rows.list.now marks.old queue.old × (d < darts rows.list.now) × Queue marks.old queue.old known }
+    ensures { Grown queue.old known (go_round rows.entry.list.now d (take known queue.old))
         marks.new queue.new result }
 {
     let mut k = known;
     let mut x = d;
+    // Stays: the chain ends at null or at d, so no range has it.
     loop {
         let a = push(marks, queue, k, x);
-        k = push(marks, queue, a, beta_at(rows, 3, x));
-        x = beta_at(rows, 1, x);
+        k = push(marks, queue, a, rows.beta(3, x));
+        x = rows.beta(1, x);
         if x == d {
             return k;
         }

@@ -79,7 +79,7 @@ volume_orbit = cell_orbit volume volumeΦ volume_serves
 
 module _ (rows : List ℕ) (w : WellFormed rows) (d : ℕ) (f : Free rows d) where
   image_alone : (c : ℕ) → IsStep c → image rows c d ≡ 0
-  unfolding image IsStep
+  unfolding image
   image_alone c h = go (ltb c 16) refl
     where
       go : (t : Bool) → ltb c 16 ≡ t → cond t (beta rows c d) (beta rows (c / 16) (beta rows (c % 16) d)) ≡ 0

@@ -3,25 +3,24 @@
 --   ident_reached, ident_least, ident_le   the identifier is reached, and least
 --   reach_below, reach_real, reach_symm    what is reached is a dart; is not null; is reached back
 --   ident_same, ident_one, ident_twice     darts have one identifier exactly where they are in one orbit
---   Lowest, lowest-..   the loop of `least`
+--   least_unique   what a list has, and is no more than any of it, is its least
 -- Assumes nothing.
 use mathlib.Core.Path.{◌≡◌, refl, sym, ap, ◌∙◌, subst}
 use mathlib.Core.Logic.{◌⊎◌, inl, inr, ⊎_elim}
 use mathlib.Core.List.Memᴰ
 use mathlib.Core.List.{List, [], ◌∷◌}
 use mathlib.Mathlib.Logic.Relation.ReflTransGenᴰ
-use Prim.Native.Nat.{ℕ, zero, suc, ◌+◌, ◌≤◌, ◌<◌, min, zero-le, suc-le-suc}
+use Prim.Native.Nat.{ℕ, ◌≤◌, ◌<◌, min}
 use native.Mathlib.Nat.{le_trans, le_of_eq, le_of_lt, le_antisymm, min-le_left, min-le_right, min-eq_left, min-eq_right, not-suc-le-zero}
-use native.Mathlib.Numerals.{add-one}
-use native.Mathlib.Omega.{arith}
 use lib.Dec.{leb}
-use lib.ListN.{length, get_or, take, drop, drop_of_length-le}
-use lib.Seq.{length-take-le, drop-cons, get_or-take}
+use lib.ListN.{get_or}
 use borrow.Author.Tests.{leb-true, leb-false}
 use Rattle.map_betas.specs.Betas.{darts}
 use Rattle.cell_steps.specs.Idents.{least_from, least, ident}
 use Rattle.cell_steps.specs.Search.{In, Reach, Bounded, Symmetric}
-use Rattle.cell_steps.proofs.Lists.{bool}
+use Rattle.cell_steps.proofs.Lists.{bool, in_at, at_in}
+use Rattle.std.specs.List.{Contains, All}
+use Rattle.std.proofs.lemmas.List.{get_or_default}
 use Rattle.cell_steps.proofs.SearchLaws.{Ext}
 use Rattle.cell_steps.proofs.OrbitLaws.{orbit_starts, orbit_sound, orbit_complete, orbit_below}
 
@@ -62,6 +61,16 @@ module _ {d : ℕ} {l : List ℕ} (e : Ext (d ∷ []) l) where
 
   pub least_le : (x : ℕ) → In x l → least l ≤ x
   least_le x m = let m' : In x (d ∷ e.rest) = rw e.is at m in rw least_is (least_bound d e.rest x m')
+
+pub least_unique : (l : List ℕ) (m : ℕ) → Contains l m → All (λ x. m ≤ x) l → m ≡ least l
+unfolding least
+least_unique [] m c a = absurd (not-suc-le-zero c.1)
+least_unique (x ∷ l) m c a =
+    let q = at_in (least_member x l) in
+    let e : get_or (x ∷ l) c.0 0 ≡ m = sym (get_or_default (x ∷ l) c.0 m 0 c.1) ∙ c.2 in
+    le_antisymm
+    (subst (λ (y : ℕ). m ≤ y) q.2 (a q.0 0 q.1))
+    (least_bound x l m (subst (λ (y : ℕ). In y (x ∷ l)) e (in_at (x ∷ l) c.0 c.1)))
 
 -- ---- the identifier
 
@@ -106,36 +115,3 @@ module _ (rows steps : List ℕ) (b : Bounded rows) (y : Symmetric rows steps) w
 
   pub ident_twice : (d : ℕ) → d < darts rows → ident rows steps (ident rows steps d) ≡ ident rows steps d
   ident_twice d h = sym (ident_same d (ident rows steps d) h (ident_reached rows steps b d h))
-
--- ---- the loop of `least`: m is the least so far, and with the places from i on it gives the least of all
-
-pub record Lowest (list : List ℕ) (count m i : ℕ) : Type 0 where
-  pub upto : i ≤ count
-  pub left : least_from m (drop i (take count list)) ≡ least (take count list)
-
-module _ (list : List ℕ) (count : ℕ) (w : count ≤ length list) where
-  pub lowest_starts : 0 < count → Lowest list count (get_or list 0 0) 1
-  unfolding least
-  lowest_starts h = go list count w h
-    where
-      go : (l : List ℕ) (k : ℕ) → k ≤ length l → 0 < k → Lowest l k (get_or l 0 0) 1
-      go l zero a b = absurd (not-suc-le-zero b)
-      go [] (suc k) a b = absurd (not-suc-le-zero a)
-      go (x ∷ l) (suc k) a b = record { upto = suc-le-suc zero-le; left = refl }
-
-  module _ (m i : ℕ) (v : Lowest list count m i) (h : i < count) where
-    next : least_from m (drop i (take count list)) ≡ least_from (min m (get_or list i 0)) (drop (i + 1) (take count list))
-    unfolding least_from
-    next =
-        let j : i < length (take count list) = omega (arith, length-take-le count list w) in
-        rw (add-one, drop-cons (take count list) i 0 j, get_or-take count list i 0 h)
-
-    pub lowest_turn : (m' : ℕ) → m' ≡ min m (get_or list i 0) → Lowest list count m' (i + 1)
-    lowest_turn m' e =
-        record { upto = omega arith; left = ap (λ (x : ℕ). least_from x (drop (i + 1) (take count list))) e ∙ sym next ∙ v.left }
-
-  pub lowest_ends : (m i : ℕ) → Lowest list count m i → count ≤ i → m ≡ least (take count list)
-  unfolding least_from
-  lowest_ends m i v h =
-      let e : length (take count list) ≤ i = omega (arith, length-take-le count list w) in
-      ap (least_from m) (sym (drop_of_length-le (take count list) e)) ∙ v.left

@@ -1,10 +1,11 @@
 -- The queue that a list's first places are, with its marks.
 --   add_null, add_old, add_new   the cases of `add`, as equations
 --   flag_zero, flag_some         what a mark says
---   push_null, -old, -room, -queue, -new   a push, case by case
+--   push_null, -old, -room, -queue, -added   a push, case by case
+--   absent_unmarked, unmarked_absent   a dart has no mark exactly where it is not there
+--   push_last                    such a dart put behind the queue
 --   queue_none, queue_n          the empty queue; a queue has at most n darts
 --   cleared_none, -step, -all    clearing the marks of a list
---   take_below                   the darts of a list's first places
 -- Assumes nothing.
 use mathlib.Core.Path.{◌≡◌, refl, sym, ap, ◌∙◌, subst}
 use mathlib.Core.Bool.{Bool, true, false, cond, ◌||◌, or-true}
@@ -17,11 +18,11 @@ use native.Mathlib.Numerals.{add-one}
 use native.Mathlib.Omega.{arith}
 use lib.Dec.{eqb}
 use lib.ListN.{length, get_or, take, set, length-set, length-append}
-use lib.Seq.{take-suc-set, drop-set-lt, get_or-set_same, get_or-set_other, length-take-le, ext_get_or, get_or-take, take-suc}
+use lib.Seq.{take-suc-set, drop-set-lt, get_or-set_same, get_or-set_other, length-take-le, ext_get_or, take-suc}
 use borrow.Author.Tests.{eqb-true, eqb-false, eq-eqb, ne_eqb}
 use Rattle.cell_steps.specs.Loans.{flag, Queue, Grown, Cleared, Zero}
 use Rattle.cell_steps.specs.Search.{In, NoRep, mem, add}
-use Rattle.cell_steps.proofs.Lists.{in_at, bool, in_mem, not_mem, norep_snoc, pigeonhole}
+use Rattle.cell_steps.proofs.Lists.{bool, in_mem, not_mem, mem_not, norep_snoc, pigeonhole}
 
 -- ---- the three cases of `add`, as equations
 
@@ -87,7 +88,7 @@ module _ (m o : List ℕ) (k x : ℕ) (q : Queue m o k) where
         )
 
     module _ (w : length m ≤ length o) where
-      pub front : take (k + 1) (set o k x) ≡ take k o ++ (x ∷ [])
+      front : take (k + 1) (set o k x) ≡ take k o ++ (x ∷ [])
       front = let r : k < length o = omega (arith, push_room) in rw (add-one, take-suc-set o k x r)
 
       flagged : (y : ℕ) → y < length m → get_or (set m x 1) y 0 ≡ flag (mem y (take k o ++ (x ∷ [])))
@@ -111,14 +112,31 @@ module _ (m o : List ℕ) (k x : ℕ) (q : Queue m o k) where
             flags = rw (front, length-set m x 1) flagged;
           }
 
-      pub push_new : (x ≡ 0 → ⊥) → Grown o k (add (take k o) x) (set m x 1) (set o k x) (k + 1)
-      push_new z =
-          record {
-            front = front ∙ sym (add_new (take k o) x z absent);
-            back = drop-set-lt (k + 1) o k x (omega arith);
-            more = omega arith;
-            queue = push_queue;
-          }
+    -- a dart put behind a queue where it was not, and is not null, is what `add` adds
+    pub push_added : (x ≡ 0 → ⊥) → (m' o' : List ℕ) (r : ℕ) → Grown o k (take k o ++ (x ∷ [])) m' o' r → Grown o k (add (take k o) x) m' o' r
+    push_added z m' o' r = subst (λ (l : List ℕ). Grown o k l m' o' r) (sym (add_new (take k o) x z absent))
+
+-- ---- a dart that is not there
+
+module _ (marks queue : List ℕ) (k x : ℕ) (q : Queue marks queue k) (h : x < length marks) where
+  -- it has no mark
+  pub absent_unmarked : (In x (take k queue) → ⊥) → get_or marks x 0 ≡ 0
+  absent_unmarked n = q.flags x h ∙ ap flag (mem_not x (take k queue) n)
+
+  -- and a dart that has none is not there
+  pub unmarked_absent : get_or marks x 0 ≡ 0 → In x (take k queue) → ⊥
+  unmarked_absent e = not_mem x (take k queue) (flag_zero (mem x (take k queue)) (sym (q.flags x h) ∙ e))
+
+  pub push_last : length marks ≤ length queue → (In x (take k queue) → ⊥) →
+      Grown queue k (take k queue ++ (x ∷ [])) (set marks x 1) (set queue k x) (k + 1)
+  push_last w n =
+      let e = absent_unmarked n in
+      record {
+        front = front marks queue k x q h e w;
+        back = drop-set-lt (k + 1) queue k x (omega arith);
+        more = omega arith;
+        queue = push_queue marks queue k x q h e w;
+      }
 
 -- ---- the empty queue
 
@@ -162,11 +180,6 @@ cleared_all m₀ m o m' k z e e' q c =
     ext_get_or 0 m' m₀ (e' ∙ e)
     (λ i h.
     c.mark i ∙ ap (λ (v : ℕ). cond (mem i (take k o)) 0 v) (q.flags i (omega arith)) ∙ flag_gone (mem i (take k o)) ∙ sym (z.place i))
-
-pub take_below : (list : List ℕ) (count n i : ℕ) → count ≤ length list → ((x : ℕ) → In x (take count list) → x < n) → i < count → get_or list i 0 < n
-take_below list count n i w b h =
-    let j : i < length (take count list) = omega (arith, length-take-le count list w) in
-    subst (λ (x : ℕ). x < n) (get_or-take count list i 0 h) (b _ (in_at (take count list) i j))
 
 pub cleared_step : (list m₀ m : List ℕ) (i : ℕ) → i < length list → get_or list i 0 < length m → Cleared (take i list) m₀ m →
     Cleared (take (i + 1) list) m₀ (set m (get_or list i 0) 0)

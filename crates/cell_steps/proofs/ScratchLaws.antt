@@ -3,7 +3,7 @@
 --   wiped_front, wiped_back        the two parts of a list whose first n places are wiped
 --   wiped_n                        the length of the first part
 --   wiped_lent                     the first part lent on, and given back as it was
---   zero_split                     zeros put where there were zeros
+--   zero_split, zeros_are          zeros put where there were zeros
 --   scratch_same                   scratch fits as long as its lengths stay
 --   clean_scratch                  scratch that is 0 fits
 --   wiped_clean                    the first parts of wiped marks and of a wiped queue are 0
@@ -54,13 +54,18 @@ zero_split (x ∷ o) (suc r) z h =
     ap (λ (y : ℕ). y ∷ wiped r o) (sym (z.place 0))
     ∙ ap (λ (t : List ℕ). x ∷ t) (zero_split o r (record { place = λ i. z.place (suc i) }) (le_of_suc-le-suc h))
 
+-- as many zeros are what was 0
+pub zeros_are : (o : List ℕ) → Zero o → replicate (length o) 0 ≡ o
+zeros_are [] z = refl
+zeros_are (x ∷ o) z = λ t. sym (z.place 0) t ∷ zeros_are o (record { place = λ i. z.place (suc i) }) t
+
 pub scratch_same : (rows marks queue marks' queue' : List ℕ) → Scratch rows marks queue → length marks' ≡ length marks →
     length queue' ≡ length queue → Scratch rows marks' queue'
 scratch_same rows marks queue marks' queue' f m o =
-    record { formed = f.formed; marks_n = m ∙ f.marks_n; queue_n = omega (arith, f.queue_n) }
+    record { marks_n = m ∙ f.marks_n; queue_n = omega (arith, f.queue_n) }
 
-pub clean_scratch : (rows marks queue : List ℕ) → WellFormed rows → Clean (darts rows) marks queue → Scratch rows marks queue
-clean_scratch rows marks queue w c = record { formed = w; marks_n = c.marks_n; queue_n = le_of_eq (sym c.queue_n) }
+pub clean_scratch : (rows marks queue : List ℕ) → Clean (darts rows) marks queue → Scratch rows marks queue
+clean_scratch rows marks queue c = record { marks_n = c.marks_n; queue_n = le_of_eq (sym c.queue_n) }
 
 pub wiped_clean : (n : ℕ) (marks queue m q : List ℕ) → m ≡ wiped n marks → q ≡ wiped n queue → Clean n (take n m) (take n q)
 wiped_clean n marks queue m q em eq =

@@ -3,7 +3,6 @@
 --   steps_are, step_of          the steps of every policy are steps
 --   policy_by                   a search by a policy over its own steps
 --   class_steps                 the steps of the policy of a class
---   codes_fit                   the steps as the code has them
 --   betas_are                   a list of betas is a list of steps
 --   image_one, image_two        where a step by one beta leads, and by two
 -- Assumes nothing.
@@ -14,15 +13,14 @@ use mathlib.Core.Path.{◌≡◌, refl, sym, ap, ◌∙◌, subst}
 use mathlib.Core.Logic.{⊎_elim}
 use mathlib.Core.List.Memᴰ
 use mathlib.Core.List.{List, [], ◌∷◌, Memᴰ}
-use lib.ListN.{length, get_or, take}
+use lib.ListN.{length, get_or}
 use borrow.Author.Tests.{lt-ltb, le-ltb}
 use Rattle.map_betas.specs.Betas.{beta}
 use Rattle.cell_steps.specs.declared.policy.OrbitPolicy.{OrbitPolicy}
 use Rattle.cell_steps.specs.declared.policy.OrbitPolicy.TheVariants.{Vertex, VertexLinear, Edge, Face, FaceLinear, Volume, VolumeLinear, Custom}
-use Rattle.cell_steps.specs.declared.policy.Steps.{Steps}
 use Rattle.cell_steps.specs.declared.cells.Class.{Class}
 use Rattle.cell_steps.specs.declared.cells.Class.TheVariants as class
-use Rattle.cell_steps.specs.Steps.{image, IsStep, steps_of, codes_of, steps_by, policy_of, cell_steps}
+use Rattle.cell_steps.specs.Steps.{image, IsStep, steps_of, steps_by, policy_of, cell_steps}
 use Rattle.cell_steps.specs.Loans.{AreSteps}
 use Rattle.cell_steps.specs.Search.{In}
 use Rattle.cell_steps.proofs.Lists.{in_at, at_in}
@@ -39,7 +37,6 @@ pub each_place : (P : ℕ → Type 0) (l : List ℕ) → Each P l → (j : ℕ) 
 each_place P l h j k = each_at P l h (get_or l j 0) (in_at l j k)
 
 pub steps_are : (p : OrbitPolicy) → AreSteps (steps_of p)
-unfolding IsStep
 steps_are Vertex = record { each = each_place IsStep (steps_of Vertex) (omega arith) }
 steps_are VertexLinear = record { each = each_place IsStep (steps_of VertexLinear) (omega arith) }
 steps_are Edge = record { each = each_place IsStep (steps_of Edge) (omega arith) }
@@ -63,19 +60,6 @@ module _ (c : Class) (p : OrbitPolicy) (e : p ≡ policy_of c) (steps : List ℕ
       go class.Face = refl
       go class.Volume = refl
 
-pub codes_fit : (p : OrbitPolicy) (r : Steps) → r ≡ codes_of p → (r.count ≤ length r.codes) × (take r.count r.codes ≡ steps_of p)
-codes_fit p r e = subst (λ (x : Steps). (x.count ≤ length x.codes) × (take x.count x.codes ≡ steps_of p)) (sym e) (go p)
-  where
-    go : (q : OrbitPolicy) → ((codes_of q).count ≤ length (codes_of q).codes) × (take (codes_of q).count (codes_of q).codes ≡ steps_of q)
-    go Vertex = (omega arith, refl)
-    go VertexLinear = (omega arith, refl)
-    go Edge = (omega arith, refl)
-    go Face = (omega arith, refl)
-    go FaceLinear = (omega arith, refl)
-    go Volume = (omega arith, refl)
-    go VolumeLinear = (omega arith, refl)
-    go Custom = (omega arith, refl)
-
 -- a search by a policy, over its own steps
 pub policy_by : (p : OrbitPolicy) (steps : List ℕ) → steps ≡ steps_of p → steps_by p steps ≡ steps
 policy_by Vertex steps e = sym e
@@ -88,7 +72,6 @@ policy_by VolumeLinear steps e = sym e
 policy_by Custom steps e = refl
 
 pub betas_are : (betas : List ℕ) → ((j : ℕ) → j < length betas → get_or betas j 0 < 4) → AreSteps betas
-unfolding IsStep
 betas_are betas h = record { each = λ j l. let b = h j l in (omega arith, omega arith) }
 
 module _ (rows : List ℕ) (c d : ℕ) where

@@ -23,7 +23,7 @@ module _ {rows steps : List ℕ} {d : ℕ} {marks₀ out₀ : List ℕ} {count :
   pub asked : Scratch rows marks₀ out₀ → AreSteps steps → d < darts rows → Scratch rows marks out × Queue marks out k × IsStep (get_or steps j 0)
       × (d < darts rows)
   asked s a b = (
-    record { formed = s.formed; marks_n = v.marks_n ∙ s.marks_n; queue_n = omega (arith, s.queue_n, v.out_n) },
+    record { marks_n = v.marks_n ∙ s.marks_n; queue_n = omega (arith, s.queue_n, v.out_n) },
     v.queue,
     a.each j h,
     b,
@@ -42,10 +42,10 @@ inner_room {rows} w i h j d x e =
     omega (arith, w.sized.whole)
 
 -- an image has a mark, and the queue has room for every mark
-pub image_room : {rows marks out : List ℕ} → Scratch rows marks out → (m o : ℕ) → m ≡ length marks → o ≡ length out → (c d x : ℕ) → x ≡ image rows c d →
+pub image_room : {rows marks out : List ℕ} → WellFormed rows → Scratch rows marks out → (m o : ℕ) → m ≡ length marks → o ≡ length out → (c d x : ℕ) → x ≡ image rows c d →
     (x < m) × (m ≤ o)
-image_room {rows} s m o em eo c d x e =
-    let b : x < darts rows = rw e (image_below rows s.formed.below c d) in
+image_room {rows} w s m o em eo c d x e =
+    let b : x < darts rows = rw e (image_below rows w.below c d) in
     (omega (arith, s.marks_n), omega (arith, s.marks_n, s.queue_n))
 
 -- ---- a visit by the steps that a list is known to be

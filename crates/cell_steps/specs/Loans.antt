@@ -9,7 +9,6 @@
 --   Listed           a list stands in an output's first places, and the rest is as it was
 use Rattle.std.specs.Prelude.{ℕ, ◌≤◌, ◌<◌, ◌≡◌, Bool, true, false, cond, List, ◌++◌, length, get_or, take, drop}
 use Rattle.map_betas.specs.Betas.{darts}
-use Rattle.map_betas.specs.Maps.{WellFormed}
 use Rattle.cell_steps.specs.Steps.{IsStep}
 use Rattle.cell_steps.specs.Search.{In, NoRep, mem}
 
@@ -21,7 +20,6 @@ pub record AreSteps (steps : List ℕ) : Type 0 where
 
 -- a core is lent exactly n marks
 pub record Scratch (rows marks queue : List ℕ) : Type 0 where
-  pub formed : WellFormed rows
   pub marks_n : length marks ≡ darts rows
   pub queue_n : darts rows ≤ length queue
 

@@ -4,14 +4,12 @@
 --   IsStep c         c is the number of a step
 --   vertex .. volume_linear   the steps of the policies, in the order of the search
 --   steps_of p        the steps of the policy p
---   codes_of p        those steps in the first of six places, and their number, as the code has them
 --   steps_by p steps  the steps that a search by p goes by: its own, or the list beside it
 --   policy_of c, cell_steps c   the policy of a class of cells, and its steps
-use Rattle.std.specs.Prelude.{ℕ, ◌+◌, ◌*◌, ◌/◌, ◌%◌, ◌<◌, List, [], ◌∷◌, ◌++◌, cond, ltb, length, take, replicate}
+use Rattle.std.specs.Prelude.{ℕ, ◌+◌, ◌*◌, ◌/◌, ◌%◌, ◌<◌, List, [], ◌∷◌, cond, ltb}
 use Rattle.map_betas.specs.Betas.{beta}
 use Rattle.cell_steps.specs.declared.policy.OrbitPolicy.{OrbitPolicy}
 use Rattle.cell_steps.specs.declared.policy.OrbitPolicy.TheVariants.{Vertex, VertexLinear, Edge, Face, FaceLinear, Volume, VolumeLinear, Custom}
-use Rattle.cell_steps.specs.declared.policy.Steps.{Steps}
 use Rattle.cell_steps.specs.declared.cells.Class.{Class}
 use Rattle.cell_steps.specs.declared.cells.Class.TheVariants as class
 
@@ -22,7 +20,7 @@ step i j = 16 * i + j
 unfoldable pub image : List ℕ → ℕ → ℕ → ℕ
 image rows c d = cond (ltb c 16) (beta rows c d) (beta rows (c / 16) (beta rows (c % 16) d))
 
-unfoldable pub IsStep : ℕ → Type 0
+abbrev pub IsStep : ℕ → Type 0
 IsStep c = (c < 64) × (c % 16 < 4)
 
 -- the steps of each policy, in the order of the search (scope: steps): each generator of the cell and its inverse
@@ -62,9 +60,6 @@ steps_of FaceLinear = face_linear
 steps_of Volume = volume
 steps_of VolumeLinear = volume_linear
 steps_of Custom = []
-
-abbrev pub codes_of : OrbitPolicy → Steps
-codes_of p = record { codes = take 6 (steps_of p ++ replicate 6 0); count = length (steps_of p) }
 
 -- the steps of a policy; those of `Custom` are lent
 abbrev pub steps_by : OrbitPolicy → List ℕ → List ℕ

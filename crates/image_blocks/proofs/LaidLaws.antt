@@ -3,8 +3,6 @@
 --   header_laid        seven words are the header's
 --   four_parts         four runs of stores, one behind another, are one
 --   record_laid        a word and three coordinates are a record
---   flag_step          one flag more
---   flags_over         all of them
 --   points_begin, points_none   before the first slot
 --   points_room, points_place, points_step   one slot more: its record fits, and is laid
 --   nothing_laid, something_room, something_laid   a slot without a point, and one with
@@ -15,15 +13,15 @@ use mathlib.Core.Bool.{true}
 use mathlib.Core.List.{List, [], ◌∷◌, ◌++◌}
 use Prim.Native.Nat.{ℕ, ◌+◌, ◌*◌, ◌-◌, ◌<◌, ◌≤◌}
 use native.Mathlib.Omega.{arith}
-use lib.ListN.{length, get_or, set, take}
-use lib.Seq.{sets, length-sets, length-take-le, get_or-take, take_all}
+use lib.ListN.{length, get_or}
+use lib.Seq.{sets, length-sets}
 use lib.Ieee.{Float, nan, binary64, to_bits}
 use lib.Ieee.Scale.{finite}
 use borrow.Author.Tests.{eq-eqb, ne_eqb}
 use Rattle.image_store.specs.Stores.{stored, stored_each, words, coordinate}
-use Rattle.image_store.proofs.Stored.{stored_length, sets_append, each_step}
-use Rattle.image_blocks.specs.Image.{bit_of, bit, points, record_bytes, point_bytes}
-use Rattle.image_blocks.proofs.PointLaws.{points_more, points_grow, record_length, records_length, point_length, records_more}
+use Rattle.image_store.proofs.Stored.{stored_length, sets_append}
+use Rattle.image_blocks.specs.Image.{points, record_bytes, point_bytes}
+use Rattle.image_blocks.proofs.PointLaws.{points_at, points_grow, record_length, records_length, point_length, records_at}
 
 pub bytes_kept : (l new : List ℕ) (at : ℕ) (xs : List ℕ) → new ≡ sets l at xs → length new ≡ length l
 bytes_kept l new at xs e = ap length e ∙ length-sets l at xs
@@ -75,56 +73,46 @@ record_laid l₀ l₁ l₂ l₃ l₄ at d coordinates =
     four_parts l₀ l₁ l₂ l₃ l₄ at (at + 4) (at + 12) (at + 20) (stored 4 d) (coordinate x) (coordinate y) (coordinate z)
     (omega arith) (omega arith) (omega arith)
 
-pub flag_step : (flags : List ℕ) (n i : ℕ) (bytes l new : List ℕ) (from b : ℕ) → i < n → n ≤ length flags → b ≡ bit_of (get_or flags i 0) →
-    l ≡ sets bytes from (stored_each bit (take i (take n flags))) → new ≡ set l (from + i) b →
-    new ≡ sets bytes from (stored_each bit (take (i + 1) (take n flags)))
-flag_step flags n i bytes l new from b h k e q g =
-    let one : from + 1 * i ≡ from + i = omega arith in
-    let long : length (take n flags) ≡ n = length-take-le n flags k in
-    let there : get_or (take n flags) i 0 ≡ get_or flags i 0 = get_or-take n flags i 0 h in
-    each_step bit 1 (λ (x : ℕ). refl) 0 (take n flags) i bytes l new from (rw long h) q
-    (g ∙ ap (λ (x : ℕ). set l (from + i) x) (e ∙ ap bit_of (sym there)) ∙ ap (λ (j : ℕ). sets l j (bit (get_or (take n flags) i 0))) (sym one))
-
-module _ (marks : List ℕ) (coordinates : List Float) (n d from at : ℕ) (h : d + 1 < n) (e : at ≡ from + 28 * length (points marks d)) where
-  pub points_room : (room : ℕ) → from + 28 * length (points marks (n - 1)) ≤ room → at + length (point_bytes marks coordinates (d + 1)) ≤ room
+module _ (marks : List ℕ) (coordinates : List Float) (n d from at : ℕ) (s : 1 ≤ d) (h : d < n) (e : at ≡ from + 28 * length (points marks (d - 1))) where
+  pub points_room : (room : ℕ) → from + 28 * length (points marks (n - 1)) ≤ room → at + length (point_bytes marks coordinates d) ≤ room
   points_room room r =
-      let z : n - 1 - (d + 1) + (d + 1) ≡ n - 1 = omega arith in
-      let g : length (points marks (d + 1)) ≤ length (points marks (n - 1)) =
-      rw (← z) (points_grow marks (n - 1 - (d + 1)) (d + 1)) in
-      let m = points_more marks d in
-      let p = point_length marks coordinates (d + 1) in
+      let z : n - 1 - d + d ≡ n - 1 = omega arith in
+      let g : length (points marks d) ≤ length (points marks (n - 1)) = rw (← z) (points_grow marks (n - 1 - d) d) in
+      let m = points_at marks d s in
+      let p = point_length marks coordinates d in
       omega arith
 
-  pub points_place : at + length (point_bytes marks coordinates (d + 1)) ≡ from + 28 * length (points marks (d + 1))
+  next : d + 1 - 1 ≡ d
+  next = omega arith
+
+  pub points_place : at + length (point_bytes marks coordinates d) ≡ from + 28 * length (points marks (d + 1 - 1))
   points_place =
-      let m = points_more marks d in
-      let p = point_length marks coordinates (d + 1) in
-      omega arith
+      let m = points_at marks d s in
+      let p = point_length marks coordinates d in
+      rw next (omega arith)
 
-  pub points_step : (bytes l new : List ℕ) → l ≡ sets bytes from (stored_each (record_bytes coordinates) (points marks d)) →
-      new ≡ sets l at (point_bytes marks coordinates (d + 1)) → new ≡ sets bytes from (stored_each (record_bytes coordinates) (points marks (d + 1)))
+  pub points_step : (bytes l new : List ℕ) → l ≡ sets bytes from (stored_each (record_bytes coordinates) (points marks (d - 1))) →
+      new ≡ sets l at (point_bytes marks coordinates d) → new ≡ sets bytes from (stored_each (record_bytes coordinates) (points marks (d + 1 - 1)))
   points_step bytes l new q g =
-      let r = records_length marks coordinates d in
-      let z : at ≡ from + length (stored_each (record_bytes coordinates) (points marks d)) = omega arith in
-      g ∙ ap (λ (m : List ℕ). sets m at (point_bytes marks coordinates (d + 1))) q
-      ∙ ap (λ (k : ℕ). sets (sets bytes from (stored_each (record_bytes coordinates) (points marks d))) k (point_bytes marks coordinates (d + 1))) z
-      ∙ sym (sets_append bytes from (stored_each (record_bytes coordinates) (points marks d)) (point_bytes marks coordinates (d + 1)))
-      ∙ ap (λ (m : List ℕ). sets bytes from m) (sym (records_more marks coordinates d))
+      let r = records_length marks coordinates (d - 1) in
+      let z : at ≡ from + length (stored_each (record_bytes coordinates) (points marks (d - 1))) = omega arith in
+      g ∙ ap (λ (m : List ℕ). sets m at (point_bytes marks coordinates d)) q
+      ∙ ap (λ (k : ℕ). sets (sets bytes from (stored_each (record_bytes coordinates) (points marks (d - 1)))) k (point_bytes marks coordinates d)) z
+      ∙ sym (sets_append bytes from (stored_each (record_bytes coordinates) (points marks (d - 1))) (point_bytes marks coordinates d))
+      ∙ ap (λ (m : List ℕ). sets bytes from m) (sym (records_at marks coordinates d s))
+      ∙ ap (λ (k : ℕ). sets bytes from (stored_each (record_bytes coordinates) (points marks k))) (sym next)
 
-pub points_begin : (marks : List ℕ) (from : ℕ) → from ≡ from + 28 * length (points marks 0)
+pub points_begin : (marks : List ℕ) (from : ℕ) → from ≡ from + 28 * length (points marks (1 - 1))
 unfolding points
 points_begin marks from = omega arith
 
 pub points_none : (marks : List ℕ) (coordinates : List Float) (bytes : List ℕ) (from : ℕ) →
-    bytes ≡ sets bytes from (stored_each (record_bytes coordinates) (points marks 0))
+    bytes ≡ sets bytes from (stored_each (record_bytes coordinates) (points marks (1 - 1)))
 unfolding points stored_each
 points_none marks coordinates bytes from = refl
 
 pub first_finite : (coordinates : List Float) (d : ℕ) → finite (get_or coordinates (3 * d + 0) nan) ≡ true → finite (get_or coordinates (3 * d) nan) ≡ true
 first_finite coordinates d e = let z : 3 * d ≡ 3 * d + 0 = omega arith in ap (λ (k : ℕ). finite (get_or coordinates k nan)) z ∙ e
-
-pub flags_over : (flags : List ℕ) (n i : ℕ) → n ≤ i → n ≤ length flags → take i (take n flags) ≡ take n flags
-flags_over flags n i h k = let e = length-take-le n flags k in take_all i (take n flags) (omega arith)
 
 -- a slot without a point, and one with
 pub nothing_laid : (marks : List ℕ) (coordinates : List Float) (bytes : List ℕ) (at d : ℕ) → get_or marks d 0 ≡ 0 →

@@ -1,13 +1,12 @@
 -- Which slots hold points, their records, and whether they are finite. Assumes nothing.
 --   bit_few                                a bit is 0 or 1
---   points_more, points_few, points_grow   how many there are: one slot on, at most, and in more slots
---   count_none, count_more, count_over     the same as they are counted
+--   points_at, points_few, points_grow     how many there are: with a slot, at most, and in more slots
+--   count_none, count_more                  the same as they are counted
 --   record_length, records_length, point_length   how many bytes they take
---   records_more                            the records of one slot more
---   point_none .. point_third               the four ways through the test of a point
+--   records_at                              the records with a slot
+--   point_none, point_some                  the test of a point: of none, and of one
 --   point_whole                             a point is finite where its coordinates are
---   finite_bad, finite_next, finite_end     the test of the points from a slot on, at that slot
---   finite_all                              it passes where each does
+--   finite_all                              the test of the points from a slot on passes where each does
 --   finite_at, point_parts                  what holds where it passes
 use mathlib.Core.Path.{◌≡◌, refl, sym, ap, ◌∙◌, subst}
 use mathlib.Core.Logic.{by_cases, ◌≢◌}
@@ -15,7 +14,6 @@ use mathlib.Core.List.{List, [], ◌∷◌, ◌++◌, append-nil}
 use mathlib.Core.Bool.{Bool, true, false, cond, not, ◌&&◌, true≢false}
 use Prim.Native.Nat.{ℕ, zero, suc, ◌+◌, ◌*◌, ◌-◌, ◌<◌, ◌≤◌}
 use native.Mathlib.Omega.{arith}
-use native.Mathlib.Numerals.{add-one}
 use native.Mathlib.Decide.{ℕ_discrete}
 use lib.ListN.{length, get_or, length-append}
 use lib.Dec.{eqb}
@@ -42,8 +40,11 @@ module _ (marks : List ℕ) where
       go true = refl
       go false = refl
 
-  pub points_more : (k : ℕ) → length (points marks (k + 1)) ≡ length (points marks k) + bit_of (get_or marks (k + 1) 0)
-  points_more k = rw (add-one k) (points_suc k)
+  pub points_at : (d : ℕ) → 1 ≤ d → length (points marks d) ≡ length (points marks (d - 1)) + bit_of (get_or marks d 0)
+  points_at zero h = absurd (omega arith)
+  points_at (suc k) h =
+      let z : suc k - 1 ≡ k = omega arith in
+      points_suc k ∙ ap (λ (j : ℕ). length (points marks j) + bit_of (get_or marks (suc k) 0)) (sym z)
 
   pub points_few : (k : ℕ) → length (points marks k) ≤ k
   unfolding points
@@ -62,16 +63,16 @@ module _ (marks : List ℕ) where
       let m = points_suc (j + k) in
       rw z (omega arith)
 
-  -- the count before the first slot, one slot on, and after the last
-  pub count_none : 0 ≡ length (points marks 0)
+  -- the count before slot 1, and one slot on
+  pub count_none : 0 ≡ length (points marks (1 - 1))
   unfolding points
   count_none = refl
 
-  pub count_more : (d v b : ℕ) → v ≡ length (points marks d) → b ≡ bit_of (get_or marks (d + 1) 0) → v + b ≡ length (points marks (d + 1))
-  count_more d v b e g = let m = points_more d in omega arith
-
-  pub count_over : (n d : ℕ) → d ≡ n - 1 → length (points marks d) ≡ length (points marks (n - 1))
-  count_over n d e = ap (λ (k : ℕ). length (points marks k)) e
+  pub count_more : (d v b : ℕ) → 1 ≤ d → v ≡ length (points marks (d - 1)) → b ≡ bit_of (get_or marks d 0) → v + b ≡ length (points marks (d + 1 - 1))
+  count_more d v b s e g =
+      let m = points_at d s in
+      let z : d + 1 - 1 ≡ d = omega arith in
+      rw z (omega arith)
 
 pub record_length : (coordinates : List Float) (d : ℕ) → length (record_bytes coordinates d) ≡ 28
 unfolding record_bytes stored
@@ -100,9 +101,12 @@ module _ (marks : List ℕ) (coordinates : List Float) where
       go true = refl
       go false = append-nil (record_bytes coordinates (suc k))
 
-  pub records_more : (k : ℕ) → stored_each (record_bytes coordinates) (points marks (k + 1)) ≡
-      stored_each (record_bytes coordinates) (points marks k) ++ point_bytes marks coordinates (k + 1)
-  records_more k = rw (add-one k) (records_suc k)
+  pub records_at : (d : ℕ) → 1 ≤ d → stored_each (record_bytes coordinates) (points marks d) ≡
+      stored_each (record_bytes coordinates) (points marks (d - 1)) ++ point_bytes marks coordinates d
+  records_at zero h = absurd (omega arith)
+  records_at (suc k) h =
+      let z : suc k - 1 ≡ k = omega arith in
+      records_suc k ∙ ap (λ (j : ℕ). stored_each (record_bytes coordinates) (points marks j) ++ point_bytes marks coordinates (suc k)) (sym z)
 
   module _ (d : ℕ) where
     pub point_none : get_or marks d 0 ≡ 0 → true ≡ point_finite marks coordinates d
@@ -110,24 +114,15 @@ module _ (marks : List ℕ) (coordinates : List Float) where
     point_none e = rw (eq-eqb (get_or marks d 0) 0 e) refl
 
     module _ (e : get_or marks d 0 ≢ 0) where
-      pub point_first : finite (get_or coordinates (3 * d) nan) ≡ false → false ≡ point_finite marks coordinates d
+      pub point_some : finite (get_or coordinates (3 * d) nan)
+          && (finite (get_or coordinates (3 * d + 1) nan) && finite (get_or coordinates (3 * d + 2) nan)) ≡ point_finite marks coordinates d
       unfolding point_finite
-      point_first x = rw (ne_eqb (get_or marks d 0) 0 e, x) refl
-
-      pub point_second : finite (get_or coordinates (3 * d) nan) ≡ true → finite (get_or coordinates (3 * d + 1) nan) ≡ false →
-          false ≡ point_finite marks coordinates d
-      unfolding point_finite
-      point_second x y = rw (ne_eqb (get_or marks d 0) 0 e, x, y) refl
-
-      pub point_third : (r : Bool) → finite (get_or coordinates (3 * d) nan) ≡ true → finite (get_or coordinates (3 * d + 1) nan) ≡ true →
-          r ≡ finite (get_or coordinates (3 * d + 2) nan) → r ≡ point_finite marks coordinates d
-      unfolding point_finite
-      point_third r x y z = rw (ne_eqb (get_or marks d 0) 0 e, x, y) z
+      point_some = rw (ne_eqb (get_or marks d 0) 0 e) refl
 
       pub point_whole : ((j : ℕ) → j < 3 → finite (get_or coordinates (3 * d + j) nan) ≡ true) → point_finite marks coordinates d ≡ true
       point_whole h =
           let z : 3 * d ≡ 3 * d + 0 = omega arith in
-          sym (point_third true (ap (λ (k : ℕ). finite (get_or coordinates k nan)) z ∙ h 0 (omega arith)) (h 1 (omega arith)) (sym (h 2 (omega arith))))
+          sym point_some ∙ simp (ap (λ (k : ℕ). finite (get_or coordinates k nan)) z ∙ h 0 (omega arith), h 1 (omega arith), h 2 (omega arith))
 
       pub point_parts : point_finite marks coordinates d ≡ true → (j : ℕ) → j < 3 → finite (get_or coordinates (3 * d + j) nan) ≡ true
       unfolding point_finite
@@ -154,30 +149,6 @@ module _ (marks : List ℕ) (coordinates : List Float) where
           pick (suc (suc zero)) h x y z = z
           pick (suc (suc (suc j))) h x y z = absurd (omega arith)
 
-  finite_cons : (d k : ℕ) → finite_from marks coordinates d (suc k) ≡ point_finite marks coordinates d && finite_from marks coordinates (suc d) k
-  unfolding finite_from
-  finite_cons d k = refl
-
-  -- the n - d slots from d on
-  module _ (n d : ℕ) where
-    split : d < n → finite_from marks coordinates d (n - d) ≡ point_finite marks coordinates d && finite_from marks coordinates (d + 1) (n - (d + 1))
-    split h =
-        let a : n - d ≡ suc (n - (d + 1)) = omega arith in
-        let b : suc d ≡ d + 1 = omega arith in
-        ap (λ (k : ℕ). finite_from marks coordinates d k) a ∙ finite_cons d (n - (d + 1))
-        ∙ ap (λ (e : ℕ). point_finite marks coordinates d && finite_from marks coordinates e (n - (d + 1))) b
-
-    pub finite_bad : d < n → point_finite marks coordinates d ≡ false → false ≡ finite_from marks coordinates d (n - d)
-    finite_bad h e = sym (split h ∙ ap (λ (b : Bool). b && finite_from marks coordinates (d + 1) (n - (d + 1))) e)
-
-    pub finite_next : d < n → point_finite marks coordinates d ≡ true →
-        finite_from marks coordinates d (n - d) ≡ finite_from marks coordinates (d + 1) (n - (d + 1))
-    finite_next h e = split h ∙ ap (λ (b : Bool). b && finite_from marks coordinates (d + 1) (n - (d + 1))) e
-
-    pub finite_end : n ≤ d → true ≡ finite_from marks coordinates d (n - d)
-    unfolding finite_from
-    finite_end h = let z : n - d ≡ 0 = omega arith in rw z refl
-
   pub finite_all : (k d : ℕ) → ((e : ℕ) → d ≤ e → e < d + k → point_finite marks coordinates e ≡ true) → finite_from marks coordinates d k ≡ true
   unfolding finite_from
   finite_all zero d h = refl
@@ -200,6 +171,3 @@ module _ (marks : List ℕ) (coordinates : List Float) where
       right : (x y : Bool) → x && y ≡ true → y ≡ true
       right true y s = s
       right false y s = absurd (true≢false (sym s))
-
-pub last_slot : (n d : ℕ) → d < n → n ≤ d + 1 → d ≡ n - 1
-last_slot n d h k = omega arith

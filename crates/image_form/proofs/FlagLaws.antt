@@ -1,5 +1,4 @@
 -- The laws of the test of the flags. Assumes nothing.
---   bits_bad, bits_next, bits_end   the turns of the search for a byte that is neither 0 nor 1
 --   flags_null, flags_bits, flags_pass   each case of the test
 --   flags_done     flags that pass keep the rules
 --   flags_good     flags that keep the rules pass
@@ -12,38 +11,17 @@ use mathlib.Core.List.{List}
 use mathlib.Core.Bool.{Bool, true, false, ◌&&◌, true≢false}
 use lib.ListN.{get_or}
 use lib.Dec.{leb}
-use borrow.Author.Tests.{le-leb, lt-leb, eq-eqb, ne_eqb, leb-true, eqb-true}
-use Rattle.map_betas.specs.declared.error.Answer.TheVariants.{Refused}
+use borrow.Author.Tests.{le-leb, eq-eqb, ne_eqb, leb-true, eqb-true}
 use Rattle.map_betas.specs.declared.error.Refusal.TheVariants.{BadImage}
-use Rattle.map_betas.specs.Answers.{pass, is_done}
+use Rattle.map_betas.specs.Answers.{pass}
 use Rattle.image_form.specs.Form.{form1, flag_offset, vertex_offset, flag_at, Flags}
 use Rattle.image_form.specs.Tests.{unless, bits_only, flags_test}
 use Rattle.image_form.proofs.HeaderLaws.{unless_done}
+use Rattle.std.specs.Prelude.{Err, is_ok}
 
 pub and_true : (a b : Bool) → (a && b) ≡ true → (a ≡ true) × (b ≡ true)
 and_true true b e = (refl, e)
 and_true false b e = absurd (true≢false (sym e))
-
-module _ (bytes : List ℕ) (to at : ℕ) where
-  pub bits_bad : at < to → 1 < get_or bytes at 0 → false ≡ bits_only (to - at) bytes at
-  unfolding bits_only
-  bits_bad h b =
-      let p : to - at ≡ suc (to - (at + 1)) = omega arith in
-      rw p (simp (lt-leb (get_or bytes at 0) 1 b))
-
-  pub bits_next : at < to → get_or bytes at 0 ≤ 1 → bits_only (to - at) bytes at ≡ bits_only (to - (at + 1)) bytes (at + 1)
-  unfolding bits_only
-  bits_next h b =
-      let p : to - at ≡ suc (to - (at + 1)) = omega arith in
-      rw p (simp (le-leb (get_or bytes at 0) 1 b))
-
-  pub bits_end : to ≤ at → true ≡ bits_only (to - at) bytes at
-  unfolding bits_only
-  bits_end h =
-      let p : to - at ≡ 0 = omega arith in
-      rw p refl
-
--- all bytes at once
 
 bits_each : (k : ℕ) (bytes : List ℕ) (at : ℕ) → bits_only k bytes at ≡ true → (p : ℕ) → at ≤ p → p < at + k → get_or bytes p 0 ≤ 1
 unfolding bits_only
@@ -69,11 +47,11 @@ module _ (bytes : List ℕ) (n from to : ℕ) (f : from ≡ flag_offset form1 n)
   bits_at : bits_only (to - from) bytes from ≡ bits_only n bytes (flag_offset form1 n)
   bits_at = let p : to - from ≡ n = omega arith in rw (p, f) refl
 
-  pub flags_null : get_or bytes from 0 ≢ 0 → Refused (BadImage 7) ≡ flags_test bytes n
+  pub flags_null : get_or bytes from 0 ≢ 0 → Err (BadImage 7) ≡ flags_test bytes n
   unfolding flags_test unless
   flags_null h = let p = null_at in simp (ne_eqb (flag_at bytes n 0) 0 (λ (e : flag_at bytes n 0 ≡ 0). h (p ∙ e)))
 
-  pub flags_bits : get_or bytes from 0 ≡ 0 → bits_only (to - from) bytes from ≡ false → Refused (BadImage 7) ≡ flags_test bytes n
+  pub flags_bits : get_or bytes from 0 ≡ 0 → bits_only (to - from) bytes from ≡ false → Err (BadImage 7) ≡ flags_test bytes n
   unfolding flags_test unless
   flags_bits a h = simp (eq-eqb (flag_at bytes n 0) 0 (sym null_at ∙ a), sym bits_at ∙ h)
 
@@ -82,7 +60,7 @@ module _ (bytes : List ℕ) (n from to : ℕ) (f : from ≡ flag_offset form1 n)
   flags_pass a h = simp (eq-eqb (flag_at bytes n 0) 0 (sym null_at ∙ a), sym bits_at ∙ h)
 
 module _ (bytes : List ℕ) (n : ℕ) where
-  pub flags_done : is_done (flags_test bytes n) ≡ true → Flags bytes n
+  pub flags_done : is_ok (flags_test bytes n) ≡ true → Flags bytes n
   unfolding flags_test
   flags_done t =
       let a = unless_done _ _ _ t in

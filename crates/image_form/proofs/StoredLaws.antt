@@ -3,7 +3,6 @@
 --   rows_length, rows_darts   the rows are those of n darts
 --   stored_is                 the word of dart d and beta i is its image
 --   stored_far, stored_null, stored_dart0, stored_fixed, stored_back   each case of a breach
---   stored_free_0 .. stored_free_3   each case of a dart without an image
 --   flags_length, flag_is     the flags are those of n darts, and the byte of dart d is its flag
 --   clean_free                the null dart, where its images break no rule, has none
 --   stored_used, stored_bound   the cases of a dart that is unused and linked
@@ -22,7 +21,7 @@ use Rattle.map_betas.specs.Betas.{beta, darts, opp}
 use Rattle.map_betas.specs.Maps.{Sized, breaks, breach_at, free_at, bound, Free}
 use Rattle.map_betas.proofs.BetaLaws.{opp_lt}
 use Rattle.map_betas.proofs.MapLaws.{breaks_far, breaks_null, breaks_dart0, breaks_fixed, breaks_back, breach_clean, null_kept}
-use Rattle.map_betas.proofs.FreeLaws.{free_0, free_1, free_2, free_3, yes_free, used_zero, unused_flag, bound_used, bound_unused, bound_free}
+use Rattle.map_betas.proofs.FreeLaws.{yes_free, used_zero, unused_flag, bound_used, bound_unused, bound_free}
 use Rattle.image_form.specs.Form.{form1, flag_offset, rows_of, flag_at, flags_of}
 
 module _ (bytes : List ℕ) (n : ℕ) where
@@ -68,34 +67,6 @@ module _ (bytes : List ℕ) (n i d x : ℕ) (e : x ≡ word32 bytes (28 + 16 * d
         let t = opp_lt i hi in
         let jt : j < 4 = omega arith in
         breaks_back (rows_of bytes n) i d j x y ej is (ey ∙ stored_is bytes n j x jt h) (omega arith) m z f
-
--- a dart without an image: w, x, y and z are what the code reads, one after the other
-
-module _ (bytes : List ℕ) (n d : ℕ) (h : d < n) (w : ℕ) (ew : w ≡ word32 bytes (28 + 16 * d + 4 * 0)) where
-  pub stored_free_0 : w ≢ 0 → false ≡ free_at (rows_of bytes n) d
-  stored_free_0 m = let a = stored_is bytes n 0 d (omega arith) h in free_0 (rows_of bytes n) d (omega arith)
-
-  module _ (nw : w ≡ 0) (x : ℕ) (ex : x ≡ word32 bytes (28 + 16 * d + 4 * 1)) where
-    pub stored_free_1 : x ≢ 0 → false ≡ free_at (rows_of bytes n) d
-    stored_free_1 m =
-        let a = stored_is bytes n 0 d (omega arith) h in
-        let b = stored_is bytes n 1 d (omega arith) h in
-        free_1 (rows_of bytes n) d (omega arith) (omega arith)
-
-    module _ (nx : x ≡ 0) (y : ℕ) (ey : y ≡ word32 bytes (28 + 16 * d + 4 * 2)) where
-      pub stored_free_2 : y ≢ 0 → false ≡ free_at (rows_of bytes n) d
-      stored_free_2 m =
-          let a = stored_is bytes n 0 d (omega arith) h in
-          let b = stored_is bytes n 1 d (omega arith) h in
-          let e = stored_is bytes n 2 d (omega arith) h in
-          free_2 (rows_of bytes n) d (omega arith) (omega arith) (omega arith)
-
-      pub stored_free_3 : y ≡ 0 → (z : ℕ) → z ≡ word32 bytes (28 + 16 * d + 4 * 3) → eqb z 0 ≡ free_at (rows_of bytes n) d
-      stored_free_3 ny z ez =
-          let a = stored_is bytes n 0 d (omega arith) h in
-          let b = stored_is bytes n 1 d (omega arith) h in
-          let e = stored_is bytes n 2 d (omega arith) h in
-          free_3 (rows_of bytes n) d (omega arith) (omega arith) z (omega arith) (ez ∙ stored_is bytes n 3 d (omega arith) h)
 
 -- the flags
 

@@ -1,6 +1,6 @@
 -- The laws of the test of the vertex records. Assumes nothing.
 --   record_low, record_high, record_first, record_second, record_third   each case of one record
---   records_bad, records_next, records_end   the turns of the test of all
+--   records_start, records_bad, records_next, records_end   the turns of the test of all
 --   vertices_bad, vertices_pass   each case of the test
 --   vertices_done   records that pass keep the rules
 --   vertices_good   records that keep the rules pass
@@ -12,13 +12,13 @@ use mathlib.Core.Bool.{true, false}
 use lib.Dec.{ltb}
 use lib.Ieee.Scale.{finite}
 use borrow.Author.Tests.{lt-ltb, le-ltb, ltb-true}
-use Rattle.map_betas.specs.declared.error.Answer.TheVariants.{Refused}
 use Rattle.map_betas.specs.declared.error.Refusal.TheVariants.{BadImage}
-use Rattle.map_betas.specs.Answers.{pass, is_done}
+use Rattle.map_betas.specs.Answers.{pass}
 use Rattle.image_form.specs.Form.{form1, vertex_offset, record_dart, record_coordinate, Sound, Vertices}
 use Rattle.image_form.specs.Tests.{unless, record_good, records_good, vertices_test}
 use Rattle.image_form.proofs.HeaderLaws.{unless_done}
 use Rattle.image_form.proofs.FlagLaws.{and_true}
+use Rattle.std.specs.Prelude.{Err, is_ok}
 
 -- one record
 
@@ -66,30 +66,34 @@ module _ (bytes : List ℕ) (n at last : ℕ) where
   sound_record a s =
       sym (record_third a s.below (s.finite 0 (omega arith)) (s.finite 1 (omega arith))) ∙ s.finite 2 (omega arith)
 
--- the turns: k of v records are passed, and the next stands at `at`
+-- the turns: k of the v records from `from` on are passed
 
-module _ (bytes : List ℕ) (n at last v k : ℕ) where
-  pub records_bad : k < v → record_good bytes n at last ≡ false → false ≡ records_good (v - k) bytes n at last
+module _ (bytes : List ℕ) (n from last v k : ℕ) where
+  pub records_bad : k < v → record_good bytes n (from + 28 * k) last ≡ false → false ≡ records_good (v - k) bytes n (from + 28 * k) last
   unfolding records_good
   records_bad h b =
       let p : v - k ≡ suc (v - (k + 1)) = omega arith in
       rw p (simp b)
 
-  pub records_next : (d : ℕ) → k < v → record_good bytes n at last ≡ true → d ≡ record_dart bytes at →
-      records_good (v - k) bytes n at last ≡ records_good (v - (k + 1)) bytes n (at + 28) d
+  pub records_next : (d : ℕ) → k < v → record_good bytes n (from + 28 * k) last ≡ true → d ≡ record_dart bytes (from + 28 * k) →
+      records_good (v - k) bytes n (from + 28 * k) last ≡ records_good (v - (k + 1)) bytes n (from + 28 * (k + 1)) d
   unfolding records_good
   records_next d h b e =
       let p : v - k ≡ suc (v - (k + 1)) = omega arith in
-      rw p (simp (b, e))
+      let q : from + 28 * (k + 1) ≡ from + 28 * k + 28 = omega arith in
+      rw (p, q) (simp (b, e))
 
-  pub records_end : v ≤ k → true ≡ records_good (v - k) bytes n at last
+  pub records_end : v ≤ k → true ≡ records_good (v - k) bytes n (from + 28 * k) last
   unfolding records_good
   records_end h =
       let p : v - k ≡ 0 = omega arith in
       rw p refl
 
-pub records_start : (bytes : List ℕ) (n at v : ℕ) → records_good v bytes n at 0 ≡ records_good (v - 0) bytes n at 0
-records_start bytes n at v = let p : v - 0 ≡ v = omega arith in rw p refl
+pub records_start : (bytes : List ℕ) (n from v : ℕ) → records_good v bytes n from 0 ≡ records_good (v - 0) bytes n (from + 0) 0
+records_start bytes n from v =
+    let p : v - 0 ≡ v = omega arith in
+    let q : from + 0 ≡ from = omega arith in
+    rw (p, q) refl
 
 -- what k records from `at` on keep, behind `last`
 record Run (k : ℕ) (bytes : List ℕ) (n at last : ℕ) : Type 0 where
@@ -165,7 +169,7 @@ run_good (suc k) bytes n at last r =
 
 -- `from` is what the code has for the start of the records
 module _ (bytes : List ℕ) (n v from : ℕ) (f : from ≡ vertex_offset form1 n) where
-  pub vertices_bad : records_good v bytes n from 0 ≡ false → Refused (BadImage 8) ≡ vertices_test bytes n v
+  pub vertices_bad : records_good v bytes n from 0 ≡ false → Err (BadImage 8) ≡ vertices_test bytes n v
   unfolding vertices_test unless
   vertices_bad h = simp (← f, h)
 
@@ -174,7 +178,7 @@ module _ (bytes : List ℕ) (n v from : ℕ) (f : from ≡ vertex_offset form1 n
   vertices_pass h = simp (← f, h)
 
 module _ (bytes : List ℕ) (n v : ℕ) where
-  pub vertices_done : is_done (vertices_test bytes n v) ≡ true → Vertices bytes n v
+  pub vertices_done : is_ok (vertices_test bytes n v) ≡ true → Vertices bytes n v
   unfolding vertices_test
   vertices_done t =
       let r = run_of v bytes n (vertex_offset form1 n) 0 (unless_done _ _ _ t).0 in

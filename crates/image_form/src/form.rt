@@ -32,26 +32,32 @@ const ROW_BYTES: u32 = 16;
 // The bytes of a vertex record.
 const RECORD_BYTES: u32 = 28;
 
+// How many darts an image has, or may have: few enough that every place in it is a 32-bit number. Whoever makes the value shows that, behind a test;
+// whoever is given it need not ask.
+#[derive(Clone, Copy)]
+pub struct Darts {
+    pub number: u32,
+    pub ghost few: { number ≤ 1048576 },
+}
+
 // Where the flags start.
-pub fn flag_offset(n: u32) -> u32
-    requires { n ≤ 1048576 }
-    ensures { result ≡ flag_offset form1 n }
+pub fn flag_offset(n: Darts) -> u32
+    ensures { result ≡ flag_offset form1 n.number }
 {
-    ROW_OFFSET + ROW_BYTES * n
+    ROW_OFFSET + ROW_BYTES * n.number
 }
 
 // Where the vertex records start.
-pub fn vertex_offset(n: u32) -> u32
-    requires { n ≤ 1048576 }
-    ensures { result ≡ vertex_offset form1 n }
+pub fn vertex_offset(n: Darts) -> u32
+    ensures { result ≡ vertex_offset form1 n.number }
 {
-    flag_offset(n) + n
+    flag_offset(n) + n.number
 }
 
 // Where the vertex records end, and the image with them.
-pub fn total_bytes(n: u32, v: u32) -> u32
-    requires { (n ≤ 1048576) × (v < n) }
-    ensures { result ≡ total_bytes form1 n v }
+pub fn total_bytes(n: Darts, v: u32) -> u32
+    requires { v < n.number }
+    ensures { result ≡ total_bytes form1 n.number v }
 {
     vertex_offset(n) + RECORD_BYTES * v
 }

@@ -7,7 +7,8 @@ ghost use Rattle.image_store.specs.Stores.{stored_each};
 ghost use Rattle.image_blocks.specs.Image.{points, point_finite, finite_from, record_bytes, point_bytes};
 
 use image_blocks::blocks::bit_of;
-use image_store::{is_finite, put_coordinate, put_word};
+use image_form::form::Darts;
+use image_store::{put_coordinate, put_word};
 
 // Whether slot d holds no point, or a finite one.
 fn point_finite(vertices: &[u8], coordinates: &[f64], d: usize) -> bool
@@ -17,40 +18,25 @@ fn point_finite(vertices: &[u8], coordinates: &[f64], d: usize) -> bool
     if vertices[d] == 0 {
         return true;
     }
-    if !is_finite(coordinates[3 * d]) {
-        return false;
-    }
-    if !is_finite(coordinates[3 * d + 1]) {
-        return false;
-    }
-    is_finite(coordinates[3 * d + 2])
+    coordinates[3 * d..3 * d + 3].iter().all(|x| x.is_finite())
 }
 
 // Whether the points of the slots from 1 to n - 1 are finite.
-pub fn points_finite(vertices: &[u8], coordinates: &[f64], n: usize) -> bool
-    requires { (1 ≤ n) × (n ≤ 1048576) × (n ≤ length vertices.now) × (3 * n ≤ length coordinates.now) }
-    ensures { result ≡ finite_from vertices.now coordinates.now 1 (n - 1) }
+pub fn points_finite(vertices: &[u8], coordinates: &[f64], n: Darts) -> bool
+    requires { (1 ≤ n.number) × (n.number ≤ length vertices.now) × (3 * n.number ≤ length coordinates.now) }
+    ensures { result ≡ finite_from vertices.now coordinates.now 1 (n.number - 1) }
 {
-    let mut d = 1;
-    while d < n {
-        if !point_finite(vertices, coordinates, d) {
-            return false;
-        }
-        d += 1;
-    }
-    true
+    (1..n.number as usize).all(|d| point_finite(vertices, coordinates, d))
 }
 
 // How many of the slots from 1 to n - 1 hold points.
-pub fn count_points(vertices: &[u8], n: usize) -> u32
-    requires { (1 ≤ n) × (n ≤ 1048576) × (n ≤ length vertices.now) }
-    ensures { (result ≡ length (points vertices.now (n - 1))) × (result < n) }
+pub fn count_points(vertices: &[u8], n: Darts) -> u32
+    requires { (1 ≤ n.number) × (n.number ≤ length vertices.now) }
+    ensures { (result ≡ length (points vertices.now (n.number - 1))) × (result < n.number) }
 {
-    let mut d = 0;
-    let mut v: u32 = 0;
-    while d + 1 < n {
-        d += 1;
-        v += bit_of(vertices[d]) as u32;
+    let mut v = 0;
+    for d in 1..n.number as usize {
+        v += u32::from(bit_of(vertices[d]));
     }
     v
 }
@@ -82,17 +68,15 @@ fn put_point(bytes: &mut [u8], at: usize, vertices: &[u8], coordinates: &[f64], 
 }
 
 // Lays the records of the slots from 1 to n - 1 from `from` on.
-pub fn put_points(bytes: &mut [u8], from: usize, vertices: &[u8], coordinates: &[f64], n: usize)
-    requires { (1 ≤ n) × (n ≤ 1048576) × (n ≤ length vertices.now) × (3 * n ≤ length coordinates.now)
-        × (from + 28 * length (points vertices.now (n - 1)) ≤ length bytes.old)
-        × (finite_from vertices.now coordinates.now 1 (n - 1) ≡ true) }
+pub fn put_points(bytes: &mut [u8], from: usize, vertices: &[u8], coordinates: &[f64], n: Darts)
+    requires { (1 ≤ n.number) × (n.number ≤ length vertices.now) × (3 * n.number ≤ length coordinates.now)
+        × (from + 28 * length (points vertices.now (n.number - 1)) ≤ length bytes.old)
+        × (finite_from vertices.now coordinates.now 1 (n.number - 1) ≡ true) }
     ensures { bytes.new
-        ≡ sets bytes.old from (stored_each (record_bytes coordinates.now) (points vertices.now (n - 1))) }
+        ≡ sets bytes.old from (stored_each (record_bytes coordinates.now) (points vertices.now (n.number - 1))) }
 {
-    let mut d = 0;
     let mut at = from;
-    while d + 1 < n {
-        d += 1;
+    for d in 1..n.number as usize {
         at = put_point(bytes, at, vertices, coordinates, d);
     }
 }

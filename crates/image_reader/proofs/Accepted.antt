@@ -1,7 +1,7 @@
 -- The reader accepts exactly the images of form 1 of maps, with loans that are long enough. Assumes nothing.
 --   loans_rows, loans_pass   the case of the rows, the reader's own loan
---   image_header, image_loans, image_blocks   each case of all tests together
 --   accepted_by   what holds where all tests pass
+--   accepted      the same, of what the code has
 --   accepts       the tests pass where it holds
 --   accepted_iff  both ways, of the tests
 use Prim.Native.Nat.{ℕ, ◌*◌, ◌<◌, ◌≤◌}
@@ -14,14 +14,13 @@ use lib.ListN.{length}
 use lib.Dec.{ltb}
 use lib.Ieee.{Float}
 use borrow.Author.Tests.{lt-ltb, le-ltb, ltb-false}
-use Rattle.map_betas.specs.declared.error.Answer.{Answer}
-use Rattle.map_betas.specs.declared.error.Answer.TheVariants.{Refused}
+use Rattle.map_betas.specs.declared.error.Loan.TheVariants.{Rows}
 use Rattle.map_betas.specs.declared.error.Refusal.TheVariants.{ShortLoan}
 use Rattle.map_betas.specs.declared.loans.Loans.{Loans}
-use Rattle.map_betas.specs.Answers.{pass, is_done}
+use Rattle.map_betas.specs.Answers.{pass, Test}
 use Rattle.map_betas.specs.Betas.{darts}
 use Rattle.map_betas.specs.Guards.{loan_test, reader_loans, Lent}
-use Rattle.map_betas.proofs.AnswerLaws.{stops, goes_on, first_done, then_done}
+use Rattle.map_betas.proofs.AnswerLaws.{goes_on, first_done, then_done}
 use Rattle.map_betas.proofs.GuardLaws.{lent, loan_none}
 use Rattle.map_betas.proofs.Formed.{map_done, map_passes}
 use Rattle.image_form.specs.Form.{form1, darts_of, vertices_of, rows_of, flags_of, Header}
@@ -32,61 +31,40 @@ use Rattle.image_form.proofs.HeaderLaws.{header_done, header_good}
 use Rattle.image_form.proofs.FlagLaws.{flags_done, flags_good}
 use Rattle.image_form.proofs.VertexLaws.{vertices_done, vertices_good}
 use Rattle.image_form.proofs.StoredLaws.{rows_darts, rows_sized, flags_length}
+use Rattle.std.specs.Prelude.{⊤, Err, Ok, is_ok}
 
 -- the loans: t is what the code has of those that other calls have too
 
-module _ (n flags : ℕ) (loans : Loans) (rows : ℕ) (t : Answer) (e : t ≡ loan_test n flags loans) where
-  pub loans_short : is_done t ≡ false → t ≡ loans_test n flags loans rows
+module _ (n flags : ℕ) (loans : Loans) (rows : ℕ) {t : Test} (e : t ≡ loan_test n flags loans) {x : ⊤} (d : t ≡ Ok x) where
+  pub loans_rows : rows < 4 * n → Err (ShortLoan Rows) ≡ loans_test n flags loans rows
   unfolding loans_test
-  loans_short d = stops _ _ _ e d
+  loans_rows h =
+      let p : cond (ltb rows (4 * n)) (Err (ShortLoan Rows)) pass ≡ Err (ShortLoan Rows) = simp (lt-ltb rows (4 * n) h) in
+      sym p ∙ goes_on e _ d
 
-  pub loans_rows : is_done t ≡ true → rows < 4 * n → Refused (ShortLoan 7) ≡ loans_test n flags loans rows
+  pub loans_pass : 4 * n ≤ rows → pass ≡ loans_test n flags loans rows
   unfolding loans_test
-  loans_rows d h =
-      let p : cond (ltb rows (4 * n)) (Refused (ShortLoan 7)) pass ≡ Refused (ShortLoan 7) = simp (lt-ltb rows (4 * n) h) in
-      sym p ∙ goes_on _ _ _ e d
+  loans_pass h =
+      let p : cond (ltb rows (4 * n)) (Err (ShortLoan Rows)) pass ≡ pass = simp (le-ltb rows (4 * n) h) in
+      sym p ∙ goes_on e _ d
 
-  pub loans_pass : is_done t ≡ true → 4 * n ≤ rows → pass ≡ loans_test n flags loans rows
-  unfolding loans_test
-  loans_pass d h =
-      let p : cond (ltb rows (4 * n)) (Refused (ShortLoan 7)) pass ≡ pass = simp (le-ltb rows (4 * n) h) in
-      sym p ∙ goes_on _ _ _ e d
-
-row_room_lem : (n rows : ℕ) → is_done (cond (ltb rows (4 * n)) (Refused (ShortLoan 7)) pass) ≡ true → 4 * n ≤ rows
+row_room_lem : (n rows : ℕ) → is_ok (cond (ltb rows (4 * n)) (Err (ShortLoan Rows)) pass) ≡ true → 4 * n ≤ rows
 row_room_lem n rows = go (ltb rows (4 * n)) refl
   where
-    go : (b : Bool) → ltb rows (4 * n) ≡ b → is_done (cond b (Refused (ShortLoan 7)) pass) ≡ true → 4 * n ≤ rows
+    go : (b : Bool) → ltb rows (4 * n) ≡ b → is_ok (cond b (Err (ShortLoan Rows)) pass) ≡ true → 4 * n ≤ rows
     go true e t = absurd (true≢false (sym t))
     go false e t = ltb-false rows (4 * n) e
 
-loans_done : (n flags : ℕ) (loans : Loans) (rows : ℕ) → is_done (loans_test n flags loans rows) ≡ true → (n ≤ flags) × Lent n loans × (4 * n ≤ rows)
+loans_done : (n flags : ℕ) (loans : Loans) (rows : ℕ) → is_ok (loans_test n flags loans rows) ≡ true → (n ≤ flags) × Lent n loans × (4 * n ≤ rows)
 unfolding loans_test
 loans_done n flags loans rows t =
     let l = lent n flags loans (first_done (loan_test n flags loans) _ t) in
     (l.0, l.1, row_room_lem n rows (then_done (loan_test n flags loans) _ t))
 
--- all tests: h, l and b are what the code has
-
-module _ (most : ℕ) (bytes : List ℕ) (flags : ℕ) (loans : Loans) (rows : ℕ) (h : Answer) (eh : h ≡ header_test most bytes) where
-  pub image_header : is_done h ≡ false → h ≡ image_test most bytes flags loans rows
-  unfolding image_test
-  image_header d = stops _ _ _ eh d
-
-  module _ (d : is_done h ≡ true) (l : Answer) (n : ℕ) (en : n ≡ darts_of bytes) (el : l ≡ loans_test n flags loans rows) where
-    pub image_loans : is_done l ≡ false → l ≡ image_test most bytes flags loans rows
-    unfolding image_test
-    image_loans f = stops _ _ _ (el ∙ ap (λ (k : ℕ). loans_test k flags loans rows) en) f ∙ goes_on _ _ _ eh d
-
-    pub image_blocks : is_done l ≡ true → (b : Answer) (v : ℕ) → v ≡ vertices_of bytes → b ≡ blocks_test bytes n v → b ≡ image_test most bytes flags loans rows
-    unfolding image_test
-    image_blocks f b v ev eb =
-        eb ∙ ap (λ (k : ℕ). blocks_test bytes k v) en ∙ ap (blocks_test bytes (darts_of bytes)) ev
-        ∙ goes_on _ _ _ (el ∙ ap (λ (k : ℕ). loans_test k flags loans rows) en) f ∙ goes_on _ _ _ eh d
-
 -- which images are accepted
 
 module _ (most : ℕ) (bytes flags vertices : List ℕ) (coordinates : List Float) (rows : List ℕ) where
-  pub accepted_by : most ≤ 1048576 → is_done (test_of most bytes flags vertices coordinates rows) ≡ true →
+  pub accepted_by : most ≤ 1048576 → is_ok (test_of most bytes flags vertices coordinates rows) ≡ true →
       Accepted most bytes flags vertices coordinates rows
   unfolding image_test blocks_test
   accepted_by m t =
@@ -115,16 +93,22 @@ module _ (most : ℕ) (bytes flags vertices : List ℕ) (coordinates : List Floa
         row_room = l.2;
       }
 
+  -- t and l are what the code has
+  pub accepted : {t : Test} {l : Loans} {x : ⊤} → most ≤ 1048576 → l ≡ reader_loans (length vertices) (length coordinates) →
+      t ≡ image_test most bytes (length flags) l (length rows) → t ≡ Ok x → Accepted most bytes flags vertices coordinates rows
+  accepted {t} {l} m el et d =
+      accepted_by m (ap is_ok (sym (et ∙ ap (λ (k : Loans). image_test most bytes (length flags) k (length rows)) el) ∙ d))
+
   loans_good : Accepted most bytes flags vertices coordinates rows → darts_of bytes ≤ 1048576 →
       pass ≡ loans_test (darts_of bytes) (length flags) (reader_loans (length vertices) (length coordinates)) (length rows)
   loans_good a few =
-      loans_pass (darts_of bytes) (length flags) (reader_loans (length vertices) (length coordinates)) (length rows) pass
+      loans_pass (darts_of bytes) (length flags) (reader_loans (length vertices) (length coordinates)) (length rows)
       (loan_none (darts_of bytes) (length flags) (reader_loans (length vertices) (length coordinates)) (omega arith) (omega arith) (omega arith)
       a.flag_room a.mark_room a.coordinate_room)
       refl a.row_room
 
   pub accepts : most ≤ 1048576 → Accepted most bytes flags vertices coordinates rows →
-      is_done (test_of most bytes flags vertices coordinates rows) ≡ true
+      is_ok (test_of most bytes flags vertices coordinates rows) ≡ true
   unfolding image_test blocks_test
   accepts m a =
       let h : Header form1 most bytes = a.image.header in
@@ -134,8 +118,8 @@ module _ (most : ℕ) (bytes flags vertices : List ℕ) (coordinates : List Floa
         flags_good bytes (darts_of bytes) a.image.flags,
         vertices_good bytes (darts_of bytes) (vertices_of bytes) a.image.vertices,
       )
-      (ap is_done (map_passes (rows_of bytes (darts_of bytes)) (flags_of bytes (darts_of bytes)) a.map))
+      (ap is_ok (map_passes (rows_of bytes (darts_of bytes)) (flags_of bytes (darts_of bytes)) a.map))
 
   pub accepted_iff : most ≤ 1048576 →
-      (is_done (test_of most bytes flags vertices coordinates rows) ≡ true) ↔ Accepted most bytes flags vertices coordinates rows
+      (is_ok (test_of most bytes flags vertices coordinates rows) ≡ true) ↔ Accepted most bytes flags vertices coordinates rows
   accepted_iff m = (accepted_by m, accepts m)

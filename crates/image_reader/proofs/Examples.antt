@@ -12,8 +12,7 @@ use mathlib.Core.List.{List, [], ◌∷◌, ◌++◌, map}
 use lib.ListN.{replicate, set}
 use lib.IntN.{pos}
 use lib.Ieee.{Float, fin, of_bits}
-use Rattle.map_betas.specs.declared.error.Answer.{Answer}
-use Rattle.map_betas.specs.declared.error.Answer.TheVariants.{Done, Refused}
+use Rattle.map_betas.specs.declared.error.Loan.TheVariants.{Flags, Vertices, Coordinates, Rows}
 use Rattle.map_betas.specs.declared.error.Refusal.TheVariants.{BadImage, ShortLoan, NotAMap}
 use Rattle.map_betas.specs.Guards.{loan_test}
 use Rattle.map_betas.specs.Maps.{breaks, breach_at, free_at, unused, bound, first_breach, map_test}
@@ -23,6 +22,8 @@ use Rattle.image_form.specs.Tests.{unless, start_test, layout_test, bits_only, f
 use Rattle.image_reader.specs.Tests.{loans_test, blocks_test, image_test}
 use Rattle.image_fill.specs.Content.{put_record, put_records, slots_of}
 use Rattle.image_reader.specs.Reads.{Read, read_out, wrote, read_within, read_image}
+use Rattle.map_betas.specs.Answers.{Answer, done}
+use Rattle.std.specs.Prelude.{Err}
 
 -- a word below 256
 abbrev word : ℕ → List ℕ
@@ -63,14 +64,14 @@ abbrev answer : List ℕ → Answer
 answer bytes = (read bytes).answer
 
 triangle_read : read triangle ≡
-    read_out (Done 0 4) (0 ∷ 0 ∷ 0 ∷ 0 ∷ 9 ∷ []) (0 ∷ 0 ∷ 0 ∷ 0 ∷ 9 ∷ []) (replicate 12 plus0 ++ (one ∷ []))
+    read_out (done 0 4) (0 ∷ 0 ∷ 0 ∷ 0 ∷ 9 ∷ []) (0 ∷ 0 ∷ 0 ∷ 0 ∷ 9 ∷ []) (replicate 12 plus0 ++ (one ∷ []))
     (0 ∷ 0 ∷ 0 ∷ 0 ∷ 3 ∷ 2 ∷ 0 ∷ 0 ∷ 1 ∷ 3 ∷ 0 ∷ 0 ∷ 2 ∷ 1 ∷ 0 ∷ 0 ∷ 9 ∷ 9 ∷ [])
 unfolding read_within wrote slots_of put_record put_records image_test blocks_test loans_test vertices_test records_good record_good flags_test bits_only layout_test
     start_test unless loan_test map_test first_breach breach_at breaks bound unused free_at word32 word64 coordinate_at listed of_bits
 triangle_read = refl
 
 pair_read : read pair ≡
-    read_out (Done 0 2) (0 ∷ 1 ∷ replicate 3 9) (0 ∷ 1 ∷ replicate 3 9) (plus0 ∷ plus0 ∷ plus0 ∷ one ∷ minus0 ∷ two ∷ replicate 7 one)
+    read_out (done 0 2) (0 ∷ 1 ∷ replicate 3 9) (0 ∷ 1 ∷ replicate 3 9) (plus0 ∷ plus0 ∷ plus0 ∷ one ∷ minus0 ∷ two ∷ replicate 7 one)
     (replicate 8 0 ++ replicate 10 9)
 unfolding read_within wrote slots_of put_record put_records image_test blocks_test loans_test vertices_test records_good record_good flags_test bits_only layout_test
     start_test unless loan_test map_test first_breach breach_at breaks bound unused free_at word32 word64 coordinate_at listed of_bits
@@ -100,19 +101,19 @@ refusals : map answer
     ∷ set triangle 95 1  -- dart 3 unused and linked
     ∷ set (set triangle 95 1) 48 0  -- the same, where dart 2 breaks a rule before
     ∷ [])
-    ≡ Refused (BadImage 1) ∷ Refused (BadImage 0) ∷ Refused (BadImage 1) ∷ Refused (BadImage 1) ∷ Refused (BadImage 2) ∷ Refused (BadImage 2)
-    ∷ Refused (BadImage 3) ∷ Refused (BadImage 4) ∷ Refused (BadImage 5) ∷ Refused (BadImage 5) ∷ Refused (BadImage 6) ∷ Refused (BadImage 7)
-    ∷ Refused (BadImage 7) ∷ Refused (BadImage 8) ∷ Refused (BadImage 8) ∷ Refused (BadImage 8) ∷ Done 0 2 ∷ Refused (BadImage 8)
-    ∷ Refused (NotAMap 0 2) ∷ Refused (NotAMap 4 3) ∷ Refused (NotAMap 0 2) ∷ []
+    ≡ Err (BadImage 1) ∷ Err (BadImage 0) ∷ Err (BadImage 1) ∷ Err (BadImage 1) ∷ Err (BadImage 2) ∷ Err (BadImage 2)
+    ∷ Err (BadImage 3) ∷ Err (BadImage 4) ∷ Err (BadImage 5) ∷ Err (BadImage 5) ∷ Err (BadImage 6) ∷ Err (BadImage 7)
+    ∷ Err (BadImage 7) ∷ Err (BadImage 8) ∷ Err (BadImage 8) ∷ Err (BadImage 8) ∷ done 0 2 ∷ Err (BadImage 8)
+    ∷ Err (NotAMap 0 2) ∷ Err (NotAMap 4 3) ∷ Err (NotAMap 0 2) ∷ []
 unfolding read_within wrote slots_of put_record put_records image_test blocks_test loans_test vertices_test records_good record_good flags_test bits_only layout_test
     start_test unless loan_test map_test first_breach breach_at breaks bound unused free_at word32 word64 coordinate_at listed of_bits
 refusals = refl
 
 -- the loans, one place too short each
-short : ((read_image triangle (replicate 3 9) [] [] []).answer ≡ Refused (ShortLoan 4))
-    × ((read_image triangle (replicate 4 9) (replicate 3 9) [] []).answer ≡ Refused (ShortLoan 5))
-    × ((read_image triangle (replicate 4 9) (replicate 4 9) (replicate 11 one) []).answer ≡ Refused (ShortLoan 6))
-    × ((read_image triangle (replicate 4 9) (replicate 4 9) (replicate 12 one) (replicate 15 9)).answer ≡ Refused (ShortLoan 7))
+short : ((read_image triangle (replicate 3 9) [] [] []).answer ≡ Err (ShortLoan Flags))
+    × ((read_image triangle (replicate 4 9) (replicate 3 9) [] []).answer ≡ Err (ShortLoan Vertices))
+    × ((read_image triangle (replicate 4 9) (replicate 4 9) (replicate 11 one) []).answer ≡ Err (ShortLoan Coordinates))
+    × ((read_image triangle (replicate 4 9) (replicate 4 9) (replicate 12 one) (replicate 15 9)).answer ≡ Err (ShortLoan Rows))
 unfolding read_within wrote slots_of put_record put_records image_test blocks_test loans_test vertices_test records_good record_good flags_test bits_only layout_test
     start_test unless loan_test map_test first_breach breach_at breaks bound unused free_at word32 word64 coordinate_at listed of_bits
 short = (refl, refl, refl, refl)

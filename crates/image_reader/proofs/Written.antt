@@ -1,5 +1,6 @@
 -- What a reading answers and writes, in one place. Assumes nothing.
 --   slot_marks, slot_coordinates   the slots of an image are as many as its darts
+--   done_is, tested   a reading that passes its tests writes, and one is done exactly where it does
 --   read_iff        a reading is done exactly where the bytes are an image of a map and the loans are long enough
 --   refused_keeps   a refusal leaves every loan as it was
 --   answer_is       a reading that is done answers (0, n)
@@ -13,30 +14,30 @@ use native.Mathlib.Omega.{arith}
 use mathlib.Core.Path.{◌≡◌, refl, sym, ap, ◌∙◌}
 use mathlib.Core.Logic.{◌≢◌, ◌↔◌}
 use mathlib.Core.List.{List, ◌++◌}
-use mathlib.Core.Bool.{Bool, true, false, cond}
+use mathlib.Core.Bool.{true, false, true≢false}
 use lib.ListN.{length, get_or, drop, get_or-append}
 use lib.Seq.{get_or-append-add, get_or-drop}
 use lib.Ieee.{Float, nan}
-use Rattle.map_betas.specs.declared.error.Answer.{Answer}
-use Rattle.map_betas.specs.declared.error.Answer.TheVariants.{Done}
-use Rattle.map_betas.specs.Answers.{is_done}
+use Rattle.map_betas.specs.Answers.{Test, behind, done}
+use Rattle.map_betas.proofs.AnswerLaws.{refused_leaves, outcome_is}
 use Rattle.map_betas.specs.Betas.{beta}
 use Rattle.image_words.specs.Words.{word32}
 use Rattle.image_words.proofs.Filled.{listed_length, listed_get}
 use Rattle.image_form.specs.Form.{form1, vertex_offset, darts_of, vertices_of, rows_of, flag_at, flags_of, record_at, record_dart, record_coordinate}
 use Rattle.image_fill.specs.Content.{slots, plus_zero, no_marks, no_coordinates, empty_slots, slots_of}
-use Rattle.image_reader.specs.Reads.{Read, read_out, wrote, test_of, read_within, read_image, Accepted}
+use Rattle.image_reader.specs.Reads.{Read, loaded, read_out, wrote, test_of, read_within, read_image, Accepted}
 use Rattle.image_form.proofs.StoredLaws.{rows_length, stored_is, flags_length, flag_is}
 use Rattle.image_fill.proofs.SlotLaws.{Holds, marks_length, coordinates_length, many_other, many_named}
 use Rattle.image_reader.proofs.Accepted.{accepted_by, accepts}
+use Rattle.std.specs.Prelude.{Ok, Err, is_ok}
 
 -- a loan whose first m places are written
 
 front : {A : Type 0} (a old : List A) (m k : ℕ) (d : A) → length a ≡ m → k < m → get_or (a ++ drop m old) k d ≡ get_or a k d
 front a old m k d e h = get_or-append a (drop m old) d k (omega arith)
 
-behind : {A : Type 0} (a old : List A) (m k : ℕ) (d : A) → length a ≡ m → m ≤ k → get_or (a ++ drop m old) k d ≡ get_or old k d
-behind a old m k d e h =
+back : {A : Type 0} (a old : List A) (m k : ℕ) (d : A) → length a ≡ m → m ≤ k → get_or (a ++ drop m old) k d ≡ get_or old k d
+back a old m k d e h =
     let p : k ≡ length a + (k - m) = omega arith in
     let q : m + (k - m) ≡ k = omega arith in
     ap (λ (j : ℕ). get_or (a ++ drop m old) j d) p ∙ get_or-append-add a (drop m old) (k - m) d ∙ get_or-drop m old (k - m) d
@@ -69,40 +70,41 @@ module _ (most : ℕ) (bytes flags vertices : List ℕ) (coordinates : List Floa
   abbrev after : Read
   after = read_within most bytes flags vertices coordinates rows
 
-  abbrev test : Answer
+  abbrev test : Test
   test = test_of most bytes flags vertices coordinates rows
 
-  done_is : is_done test ≡ true → after ≡ wrote bytes n v flags vertices coordinates rows
+  pub done_is : is_ok test ≡ true → after ≡ wrote bytes n v flags vertices coordinates rows
   unfolding read_within
-  done_is t = simp t
-
-  refused_is : is_done test ≡ false → after ≡ read_out test flags vertices coordinates rows
-  unfolding read_within
-  refused_is t = simp t
-
-  tested : is_done after.answer ≡ is_done test
-  unfolding read_within wrote
-  tested = go (is_done test) refl
+  done_is = go test
     where
-      go : (b : Bool) → is_done test ≡ b →
-          is_done (cond b (wrote bytes n v flags vertices coordinates rows) (read_out test flags vertices coordinates rows)).answer ≡ is_done test
-      go true e = sym e
-      go false e = refl
+      go : (t : Test) → is_ok t ≡ true →
+          behind t (loaded flags vertices coordinates rows) (wrote bytes n v flags vertices coordinates rows) ≡ wrote bytes n v flags vertices coordinates rows
+      go (Ok x) e = refl
+      go (Err w) e = absurd (true≢false (sym e))
 
-  pub read_iff : most ≤ 1048576 → (is_done after.answer ≡ true) ↔ Accepted most bytes flags vertices coordinates rows
+  pub tested : is_ok after.answer ≡ is_ok test
+  unfolding read_within wrote
+  tested = go test
+    where
+      go : (t : Test) →
+          is_ok (behind t (loaded flags vertices coordinates rows) (wrote bytes n v flags vertices coordinates rows)).answer ≡ is_ok t
+      go (Ok x) = refl
+      go (Err w) = refl
+
+  pub read_iff : most ≤ 1048576 → (is_ok after.answer ≡ true) ↔ Accepted most bytes flags vertices coordinates rows
   read_iff m =
       (λ t. accepted_by most bytes flags vertices coordinates rows m (sym tested ∙ t), λ a. tested ∙ accepts most bytes flags vertices coordinates rows m a)
 
-  pub refused_keeps : is_done after.answer ≡ false → after ≡ read_out after.answer flags vertices coordinates rows
+  pub refused_keeps : is_ok after.answer ≡ false → after ≡ read_out after.answer flags vertices coordinates rows
+  unfolding read_within wrote
   refused_keeps t =
-      let e = refused_is (sym tested ∙ t) in
-      e ∙ ap (λ (r : Read). read_out r.answer flags vertices coordinates rows) (sym e)
+      outcome_is refl (refused_leaves test (loaded flags vertices coordinates rows) (wrote bytes n v flags vertices coordinates rows) refl t)
 
   module _ (m : most ≤ 1048576) (a : Accepted most bytes flags vertices coordinates rows) where
     is : after ≡ wrote bytes n v flags vertices coordinates rows
     is = done_is (accepts most bytes flags vertices coordinates rows m a)
 
-    pub answer_is : after.answer ≡ Done 0 n
+    pub answer_is : after.answer ≡ done 0 n
     unfolding wrote
     answer_is = ap (λ (r : Read). r.answer) is
 
@@ -128,7 +130,7 @@ module _ (most : ℕ) (bytes flags vertices : List ℕ) (coordinates : List Floa
         ∙ sym (stored_is bytes n i d hi hd)
 
     pub rows_keep : (k : ℕ) → 4 * n ≤ k → get_or after.loans.rows k 0 ≡ get_or rows k 0
-    rows_keep k h = ap (λ (l : List ℕ). get_or l k 0) rows_are ∙ behind (rows_of bytes n) rows (4 * n) k 0 (rows_length bytes n) h
+    rows_keep k h = ap (λ (l : List ℕ). get_or l k 0) rows_are ∙ back (rows_of bytes n) rows (4 * n) k 0 (rows_length bytes n) h
 
     pub flags_say : (d : ℕ) → d < n → get_or after.loans.flags d 0 ≡ flag_at bytes n d
     flags_say d h =
@@ -136,16 +138,16 @@ module _ (most : ℕ) (bytes flags vertices : List ℕ) (coordinates : List Floa
         ∙ front (flags_of bytes n) flags n d 0 (flags_length bytes n) h ∙ sym (flag_is bytes n d h)
 
     pub flags_keep : (k : ℕ) → n ≤ k → get_or after.loans.flags k 0 ≡ get_or flags k 0
-    flags_keep k h = ap (λ (l : List ℕ). get_or l k 0) flags_are ∙ behind (flags_of bytes n) flags n k 0 (flags_length bytes n) h
+    flags_keep k h = ap (λ (l : List ℕ). get_or l k 0) flags_are ∙ back (flags_of bytes n) flags n k 0 (flags_length bytes n) h
 
     pub vertices_keep : (k : ℕ) → n ≤ k → get_or after.loans.vertices k 0 ≡ get_or vertices k 0
     vertices_keep k h =
-        ap (λ (l : List ℕ). get_or l k 0) vertices_are ∙ behind (slots_of bytes n v).marks vertices n k 0 (slot_marks bytes n v) h
+        ap (λ (l : List ℕ). get_or l k 0) vertices_are ∙ back (slots_of bytes n v).marks vertices n k 0 (slot_marks bytes n v) h
 
     pub coordinates_keep : (k : ℕ) → 3 * n ≤ k → get_or after.loans.coordinates k nan ≡ get_or coordinates k nan
     coordinates_keep k h =
         ap (λ (l : List Float). get_or l k nan) coordinates_are
-        ∙ behind (slots_of bytes n v).coordinates coordinates (3 * n) k nan (slot_coordinates bytes n v) h
+        ∙ back (slots_of bytes n v).coordinates coordinates (3 * n) k nan (slot_coordinates bytes n v) h
 
     -- a slot of the image, as the loans have it
     slot_is : (d : ℕ) → d < n → (mark : ℕ) (point : ℕ → Float) → Holds (slots_of bytes n v) d mark point →
@@ -183,5 +185,5 @@ module _ (most : ℕ) (bytes flags vertices : List ℕ) (coordinates : List Floa
 
 -- the public reading
 pub read_image_iff : (bytes flags vertices : List ℕ) (coordinates : List Float) (rows : List ℕ) →
-    (is_done (read_image bytes flags vertices coordinates rows).answer ≡ true) ↔ Accepted 1048576 bytes flags vertices coordinates rows
+    (is_ok (read_image bytes flags vertices coordinates rows).answer ≡ true) ↔ Accepted 1048576 bytes flags vertices coordinates rows
 read_image_iff bytes flags vertices coordinates rows = read_iff 1048576 bytes flags vertices coordinates rows (omega arith)

@@ -6,9 +6,7 @@
 --   read_image     the reading of an image of any number of darts that a map may have
 --   Accepted      what holds of an image and its loans exactly where it is read (`proofs/Accepted.antt`)
 use Rattle.std.specs.Prelude.{ℕ, ◌*◌, ◌≤◌, List, ◌++◌, length, drop, Float}
-use Rattle.map_betas.specs.declared.error.Answer.{Answer}
-use Rattle.map_betas.specs.declared.error.Answer.TheVariants.{Done}
-use Rattle.map_betas.specs.Answers.{Outcome, outcome, behind}
+use Rattle.map_betas.specs.Answers.{Outcome, outcome, behind, Answer, Test, done}
 use Rattle.map_betas.specs.Maps.{Map}
 use Rattle.image_form.specs.Form.{darts_of, vertices_of, rows_of, flags_of, IsImage}
 use Rattle.map_betas.specs.Guards.{reader_loans}
@@ -33,11 +31,11 @@ read_out a flags vertices coordinates rows = outcome a (loaded flags vertices co
 -- scope: reader. What an image of n darts and v records leaves in the loans, whose places beyond n stay as they were.
 unfoldable pub wrote : List ℕ → ℕ → ℕ → List ℕ → List ℕ → List Float → List ℕ → Read
 wrote bytes n v flags vertices coordinates rows =
-    read_out (Done 0 n) (flags_of bytes n ++ drop n flags) ((slots_of bytes n v).marks ++ drop n vertices)
+    read_out (done 0 n) (flags_of bytes n ++ drop n flags) ((slots_of bytes n v).marks ++ drop n vertices)
     ((slots_of bytes n v).coordinates ++ drop (3 * n) coordinates)
     (rows_of bytes n ++ drop (4 * n) rows)
 
-abbrev pub test_of : ℕ → List ℕ → List ℕ → List ℕ → List Float → List ℕ → Answer
+abbrev pub test_of : ℕ → List ℕ → List ℕ → List ℕ → List Float → List ℕ → Test
 test_of most bytes flags vertices coordinates rows =
     image_test most bytes (length flags) (reader_loans (length vertices) (length coordinates)) (length rows)
 

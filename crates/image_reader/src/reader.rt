@@ -1,80 +1,80 @@
 // The reader: all tests first, so that a refusal writes nothing; then the four loans.
 ghost use Rattle.std.specs.Prelude.{◌≡◌, ℕ, ◌*◌, ◌<◌, ◌≤◌, length, drop};
-ghost use Rattle.image_form.specs.Form.{form1, total_bytes, record_at, Sound};
+ghost use Rattle.image_form.specs.Form.{form1, darts_of, total_bytes, record_at, Sound};
 ghost use Rattle.image_reader.specs.Tests.{loans_test, blocks_test, image_test};
 ghost use Rattle.image_fill.specs.Content.{slots, over, slots_of};
 ghost use Rattle.image_reader.specs.Reads.{read_out, read_within, read_image};
 
 use image_checks::blocks::{flags_test, vertices_test};
-use image_fill::{clear_coordinates, clear_marks, copy_bytes, copy_words, put_records};
-use image_form::form::{DARTS_AT, ROW_OFFSET, VERTICES_AT, flag_offset, vertex_offset};
+use image_fill::{copy_bytes, copy_words, put_records};
+use image_form::form::{DARTS_AT, Darts, ROW_OFFSET, VERTICES_AT, flag_offset, vertex_offset};
 use image_header::header::header_test;
 use image_map::map_test;
 use image_words::word_at;
-use map_betas::error::{Answer, Refusal, is_done};
+use map_betas::error::{Answer, Done, Loan, Refusal};
 use map_betas::loans::{Loans, reader_loans};
 use map_guard::guard::loan_test;
 
 // Refuses the first loan that is too short for n darts; the rows, the reader's own, come last.
-fn loans_test(n: usize, flags: usize, loans: Loans, rows: usize) -> Answer
-    requires { n ≤ 1048576 }
-    ensures { result ≡ loans_test n flags loans rows }
+fn loans_test(n: Darts, flags: usize, loans: Loans, rows: usize) -> Result<(), Refusal>
+    ensures { result ≡ loans_test n.number flags loans rows }
 {
-    let t = loan_test(n, flags, loans);
-    if !is_done(t) {
-        return t;
+    let count = n.number as usize;
+    loan_test(count, flags, loans)?;
+    if rows < 4 * count {
+        return Err(Refusal::ShortLoan(Loan::Rows));
     }
-    if rows < 4 * n {
-        return Answer::Refused(Refusal::ShortLoan(7));
-    }
-    Answer::Done(0, 0)
+    Ok(())
 }
 
 // Refuses flags, then vertex records, then darts that break a rule.
-fn blocks_test(bytes: &[u8], n: u32, v: u32) -> Answer
-    requires { (1 ≤ n) × (n ≤ 1048576) × (total_bytes form1 n v ≤ length bytes.now) }
-    ensures { result ≡ blocks_test bytes.now n v }
+fn blocks_test(bytes: &[u8], n: Darts, v: u32) -> Result<(), Refusal>
+    requires { (1 ≤ n.number) × (total_bytes form1 n.number v ≤ length bytes.now) }
+    ensures { result ≡ blocks_test bytes.now n.number v }
 {
-    let f = flags_test(bytes, n);
-    if !is_done(f) {
-        return f;
-    }
-    let p = vertices_test(bytes, n, v);
-    if !is_done(p) {
-        return p;
-    }
+    flags_test(bytes, n)?;
+    vertices_test(bytes, n, v)?;
     map_test(bytes, n)
 }
 
-// All tests of an image of at most `most` darts and of the loans, in order.
-fn image_test(bytes: &[u8], most: u32, flags: usize, loans: Loans, rows: usize) -> Answer
-    requires { most ≤ 1048576 }
-    ensures { result ≡ image_test most bytes.now flags loans rows }
+// How many darts an image says it has, behind the test of its header.
+fn darts_of(bytes: &[u8]) -> Darts
+    requires { (12 ≤ length bytes.now) × (darts_of bytes.now ≤ 1048576) }
+    ensures { result.number ≡ darts_of bytes.now }
 {
-    let h = header_test(bytes, most);
-    if !is_done(h) {
-        return h;
+    Darts {
+        number: word_at(bytes, DARTS_AT),
     }
-    let n = word_at(bytes, DARTS_AT);
-    let l = loans_test(n as usize, flags, loans, rows);
-    if !is_done(l) {
-        return l;
-    }
+}
+
+// All tests of an image of at most `most` darts and of the loans, in order.
+fn image_test(
+    bytes: &[u8],
+    most: Darts,
+    flags: usize,
+    loans: Loans,
+    rows: usize,
+) -> Result<(), Refusal>
+    ensures { result ≡ image_test most.number bytes.now flags loans rows }
+{
+    header_test(bytes, most)?;
+    let n = darts_of(bytes);
+    loans_test(n, flags, loans, rows)?;
     blocks_test(bytes, n, word_at(bytes, VERTICES_AT))
 }
 
 // Writes the vertex slots of n darts from v records.
-fn fill_slots(bytes: &[u8], n: u32, v: u32, vertices: &mut [u8], coordinates: &mut [f64])
-    requires { (n ≤ 1048576) × (total_bytes form1 n v ≤ length bytes.now) × ((k : ℕ) → k < v → Sound bytes.now n (record_at n k))
-        × (n ≤ length vertices.old) × (3 * n ≤ length coordinates.old) }
+fn fill_slots(bytes: &[u8], n: Darts, v: u32, vertices: &mut [u8], coordinates: &mut [f64])
+    requires { (total_bytes form1 n.number v ≤ length bytes.now) × ((k : ℕ) → k < v → Sound bytes.now n.number (record_at n.number k))
+        × (n.number ≤ length vertices.old) × (3 * n.number ≤ length coordinates.old) }
     ensures { slots vertices.new coordinates.new
-        ≡ over (slots_of bytes.now n v) (drop n vertices.old) (drop (3 * n) coordinates.old) }
+        ≡ over (slots_of bytes.now n.number v) (drop n.number vertices.old) (drop (3 * n.number) coordinates.old) }
 {
-    clear_marks(vertices, n as usize);
-    clear_coordinates(coordinates, n as usize);
+    vertices[..n.number as usize].fill(0);
+    coordinates[..3 * (n.number as usize)].fill(0.0);
     put_records(
         bytes,
-        n as usize,
+        n,
         vertex_offset(n) as usize,
         v as usize,
         vertices,
@@ -96,15 +96,14 @@ pub fn read_within(
         ≡ read_within most bytes.now flags.old vertices.old coordinates.old rows.old }
 {
     let loans = reader_loans(vertices.len(), coordinates.len());
-    let t = image_test(bytes, most, flags.len(), loans, rows.len());
-    if !is_done(t) {
-        return t;
-    }
-    let n = word_at(bytes, DARTS_AT);
-    copy_bytes(bytes, flag_offset(n) as usize, flags, n as usize);
+    let limit = Darts { number: most };
+    image_test(bytes, limit, flags.len(), loans, rows.len())?;
+    let n = darts_of(bytes);
+    let count = n.number as usize;
+    copy_bytes(bytes, flag_offset(n) as usize, &mut flags[..count]);
     fill_slots(bytes, n, word_at(bytes, VERTICES_AT), vertices, coordinates);
-    copy_words(bytes, ROW_OFFSET as usize, rows, 4 * (n as usize));
-    Answer::Done(0, n as usize)
+    copy_words(bytes, ROW_OFFSET as usize, &mut rows[..4 * count]);
+    Ok(Done { value: 0, count })
 }
 
 // Reads an image.

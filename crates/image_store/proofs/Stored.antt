@@ -1,18 +1,24 @@
 -- What stands where in stored numbers, and stores one behind another. Assumes nothing.
 --   stored_length     k bytes are k bytes
---   stored_long       eight bytes are twice four
+--   low_first         std's bytes of a number are those bytes
+--   put_in            and put into a part of a list they are a run of stores
 --   sets_append       a run of stores in two parts
 --   each_append, each_length   things stored one behind another: in two parts, and how many bytes of a width w
 --   each_get          byte i of thing k stands at w * k + i
 --   each_none, each_more, each_step   a loan before the first, and one thing on
 use mathlib.Core.Path.{◌≡◌, refl, sym, ap, ◌∙◌}
 use mathlib.Core.List.{List, [], ◌∷◌, ◌++◌, append_assoc, append-nil}
-use Prim.Native.Nat.{ℕ, zero, suc, ◌+◌, ◌*◌, ◌/◌, ◌%◌, ◌<◌}
-use native.Mathlib.Nat.{mul-zero, mul-suc}
-use native.Mathlib.Numerals.{add-one, add-two, add-three}
+use Prim.Native.Nat.{ℕ, zero, suc, ◌+◌, ◌*◌, ◌/◌, ◌%◌, ◌^◌, ◌-◌, ◌<◌, ◌≤◌}
+use native.Mathlib.Nat.{mul-zero, mul-suc, pow-suc}
+use Rattle.std.proofs.Math.Nat.{div-one, div-div-eq-div-mul}
+use native.Mathlib.Numerals.{add-one}
+use borrow.Rule.Slice.PartMut.{put_mid}
+use Rattle.std.specs.Int.{byte_at, bytes_low_first}
+use Rattle.std.proofs.lemmas.Slice.{put_mid-paste}
+use Rattle.std.proofs.lemmas.List.Edits.{paste_all}
 use native.Mathlib.Omega.{arith}
-use lib.ListN.{length, get_or, set, take, length-append, get_or-append}
-use lib.Seq.{sets, take-suc, length-take-le, get_or-append-add}
+use lib.ListN.{length, get_or, set, take, drop, length-append, get_or-append}
+use lib.Seq.{sets, sets-eq, take-suc, length-take-le, get_or-append-add}
 use Rattle.image_store.specs.Stores.{stored, stored_each}
 
 pub stored_length : (k x : ℕ) → length (stored k x) ≡ k
@@ -20,45 +26,20 @@ unfolding stored
 stored_length zero x = refl
 stored_length (suc k) x = ap suc (stored_length k (x / 256))
 
--- four digits
-pub four : (x : ℕ) → stored 4 x ≡ (x % 256) ∷ (x / 256 % 256) ∷ (x / 65536 % 256) ∷ (x / 16777216 % 256) ∷ []
+-- std's bytes of a number, from byte i upward, are those of what is above
+pub low_first : (i k x : ℕ) → bytes_low_first i k x ≡ stored k (x / 256 ^ i)
 unfolding stored
-four x =
-    let two : x / 256 / 256 ≡ x / 65536 = omega arith in
-    let three : x / 65536 / 256 ≡ x / 16777216 = omega arith in
-    ap (λ (q : ℕ). (x % 256) ∷ (x / 256 % 256) ∷ (q % 256) ∷ (q / 256 % 256) ∷ []) two
-    ∙ ap (λ (q : ℕ). (x % 256) ∷ (x / 256 % 256) ∷ (x / 65536 % 256) ∷ (q % 256) ∷ []) three
-
-same_digit : (a b q : ℕ) → a ≡ 256 * q + b → a % 256 ≡ b % 256
-same_digit a b q e = omega arith
-
--- the four lower digits, and the four of what is above them
-pub stored_long : (x : ℕ) → stored 8 x ≡ stored 4 (x % 4294967296) ++ stored 4 (x / 4294967296)
-unfolding stored
-stored_long x = ap (λ (q : ℕ). stored 4 x ++ stored 4 q) upper ∙ ap (λ (l : List ℕ). l ++ stored 4 (x / 4294967296)) lower
+low_first i zero x = refl
+low_first i (suc k) x =
+    ap (λ (b : ℕ). b ∷ bytes_low_first (suc i) k x) (digit i)
+    ∙ ap (λ (l : List ℕ). (x / 256 ^ i % 256) ∷ l) (low_first (suc i) k x ∙ ap (stored k) (above i))
   where
-    upper : x / 256 / 256 / 256 / 256 ≡ x / 4294967296
-    upper =
-        let two : x / 256 / 256 ≡ x / 65536 = omega arith in
-        let three : x / 65536 / 256 ≡ x / 16777216 = omega arith in
-        let four : x / 16777216 / 256 ≡ x / 4294967296 = omega arith in
-        ap (λ (q : ℕ). q / 256 / 256) two ∙ ap (λ (q : ℕ). q / 256) three ∙ four
+    digit : (j : ℕ) → byte_at j x ≡ x / 256 ^ j % 256
+    digit zero = ap (λ (q : ℕ). q % 256) (sym (div-one x))
+    digit (suc j) = refl
 
-    lower : stored 4 x ≡ stored 4 (x % 4294967296)
-    lower =
-        let d₀ : x % 256 ≡ x % 4294967296 % 256 = omega arith in
-        let d₁ : x / 256 % 256 ≡ x % 4294967296 / 256 % 256 =
-        same_digit (x / 256) (x % 4294967296 / 256) (65536 * (x / 4294967296)) (omega arith) in
-        let d₂ : x / 65536 % 256 ≡ x % 4294967296 / 65536 % 256 =
-        same_digit (x / 65536) (x % 4294967296 / 65536) (256 * (x / 4294967296)) (omega arith) in
-        let d₃ : x / 16777216 % 256 ≡ x % 4294967296 / 16777216 % 256 =
-        same_digit (x / 16777216) (x % 4294967296 / 16777216) (1 * (x / 4294967296)) (omega arith) in
-        four x
-        ∙ ap (λ (d : ℕ). d ∷ (x / 256 % 256) ∷ (x / 65536 % 256) ∷ (x / 16777216 % 256) ∷ []) d₀
-        ∙ ap (λ (d : ℕ). (x % 4294967296 % 256) ∷ d ∷ (x / 65536 % 256) ∷ (x / 16777216 % 256) ∷ []) d₁
-        ∙ ap (λ (d : ℕ). (x % 4294967296 % 256) ∷ (x % 4294967296 / 256 % 256) ∷ d ∷ (x / 16777216 % 256) ∷ []) d₂
-        ∙ ap (λ (d : ℕ). (x % 4294967296 % 256) ∷ (x % 4294967296 / 256 % 256) ∷ (x % 4294967296 / 65536 % 256) ∷ d ∷ []) d₃
-        ∙ sym (four (x % 4294967296))
+    above : (j : ℕ) → x / 256 ^ suc j ≡ x / 256 ^ j / 256
+    above j = ap (λ (q : ℕ). x / q) (pow-suc 256 j) ∙ sym (div-div-eq-div-mul x (256 ^ j) 256)
 
 module _ {A : Type 0} where
   pub sets_append : (l : List A) (at : ℕ) (xs ys : List A) → sets l at (xs ++ ys) ≡ sets (sets l at xs) (at + length xs) ys
@@ -68,18 +49,16 @@ module _ {A : Type 0} where
       let z : suc at + length xs ≡ at + suc (length xs) = omega arith in
       next ∙ ap (λ (k : ℕ). sets (sets (set l at x) (suc at) xs) k ys) z
 
--- four stores are those of a word, and two words those of a double word
-pub put_four : (l : List ℕ) (at w : ℕ) →
-    set (set (set (set l at (w % 256)) (at + 1) (w / 256 % 256)) (at + 2) (w / 65536 % 256)) (at + 3) (w / 16777216 % 256) ≡ sets l at (stored 4 w)
-put_four l at w = rw (add-one at, add-two at, add-three at) (ap (λ (d : List ℕ). sets l at d) (sym (four w)))
-
-pub put_eight : (l m r : List ℕ) (at x : ℕ) → m ≡ sets l at (stored 4 (x % 4294967296)) → r ≡ sets m (at + 4) (stored 4 (x / 4294967296)) →
-    r ≡ sets l at (stored 8 x)
-put_eight l m r at x e g =
-    g ∙ ap (λ (k : List ℕ). sets k (at + 4) (stored 4 (x / 4294967296))) e
-    ∙ ap (λ (k : ℕ). sets (sets l at (stored 4 (x % 4294967296))) (at + k) (stored 4 (x / 4294967296))) (sym (stored_length 4 (x % 4294967296)))
-    ∙ sym (sets_append l at (stored 4 (x % 4294967296)) (stored 4 (x / 4294967296)))
-    ∙ ap (λ (d : List ℕ). sets l at d) (sym (stored_long x))
+-- the bytes of a number put into a part of a list
+pub put_in : (k : ℕ) (l : List ℕ) {b p : List ℕ} (at x : ℕ) {e : ℕ} → e ≡ at + k → e ≤ length l → b ≡ bytes_low_first 0 k x → p ≡ b →
+    put_mid at (e - at) l p ≡ sets l at (stored k x)
+put_in k l {b} {p} at x {e} w h g q =
+    let z : p ≡ stored k x = q ∙ g ∙ low_first 0 k x ∙ ap (stored k) (div-one x) in
+    let n : length (stored k x) ≡ k = stored_length k x in
+    let m : length (stored k x) ≡ e - at = omega arith in
+    put_mid-paste at (e - at) l p (stored k x) (length (stored k x)) z m refl
+    ∙ paste_all l at (stored k x) (length (stored k x)) refl
+    ∙ sym (append_assoc (take at l) (stored k x) (drop (at + length (stored k x)) l)) ∙ sym (sets-eq (stored k x) l at (omega arith))
 
 module _ {A : Type 0} (f : A → List ℕ) where
   pub each_append : (xs ys : List A) → stored_each f (xs ++ ys) ≡ stored_each f xs ++ stored_each f ys
@@ -131,9 +110,10 @@ module _ {A : Type 0} (f : A → List ℕ) where
         ∙ sets_append bytes from (stored_each f (take i xs)) (f (get_or xs i d))
         ∙ ap (λ (m : ℕ). sets (sets bytes from (stored_each f (take i xs))) (from + m) (f (get_or xs i d))) long)
 
-    -- the same as a loop's turn leaves it
-    pub each_step : (d : A) (xs : List A) (i : ℕ) (bytes l new : List ℕ) (from : ℕ) → i < length xs → l ≡ sets bytes from (stored_each f (take i xs)) →
-        new ≡ sets l (from + w * i) (f (get_or xs i d)) → new ≡ sets bytes from (stored_each f (take (i + 1) xs))
-    each_step d xs i bytes l new from h e g =
-        g ∙ ap (λ (m : List ℕ). sets m (from + w * i) (f (get_or xs i d))) e ∙ each_more d xs i bytes from h
+    -- the same as a loop's turn leaves it, at its place `at`
+    pub each_step : (d : A) (xs : List A) (i : ℕ) (bytes l new : List ℕ) (from at : ℕ) → i < length xs → at ≡ from + w * i →
+        l ≡ sets bytes from (stored_each f (take i xs)) → new ≡ sets l at (f (get_or xs i d)) → new ≡ sets bytes from (stored_each f (take (i + 1) xs))
+    each_step d xs i bytes l new from at h p e g =
+        g ∙ ap (λ (m : List ℕ). sets m at (f (get_or xs i d))) e
+        ∙ ap (λ (k : ℕ). sets (sets bytes from (stored_each f (take i xs))) k (f (get_or xs i d))) p ∙ each_more d xs i bytes from h
         ∙ ap (λ (k : ℕ). sets bytes from (stored_each f (take k xs))) (sym (add-one i))

@@ -5,9 +5,10 @@
 --   number_below      bytes are no more than a number of their width
 --   put_there, put_elsewhere   a number put at a place and read there, and bytes elsewhere left alone
 --   word_is, long_is  words and double words as the reader reads them
+--   finite_is         std's word for a finite double
 --   finite_bits, bits_finite   a finite coordinate's pattern, and a pattern read as a finite coordinate
 use mathlib.Core.Path.{◌≡◌, refl, sym, ap, ◌∙◌, subst}
-use mathlib.Core.Bool.{true, false, not}
+use mathlib.Core.Bool.{true, not}
 use mathlib.Core.Logic.{◌≢◌, ◌⊎◌, inl, inr, ⊎_elim}
 use mathlib.Core.List.{List, [], ◌∷◌, ◌++◌}
 use Prim.Native.Nat.{ℕ, zero, suc, ◌+◌, ◌*◌, ◌/◌, ◌%◌, ◌^◌, ◌<◌, ◌≤◌}
@@ -16,9 +17,9 @@ use native.Mathlib.Nat.{pow-suc}
 use lib.ListN.{length, get_or, set, take, drop, length-append, get_or-append}
 use lib.Seq.{sets, sets-eq, length-take-le, get_or-append-add, get_or-set_other}
 use lib.Dec.{T}
-use lib.Ieee.{Float, nan, inf, fin, binary64, of_bits, to_bits, fits, is_nan, ne}
+use lib.Ieee.{Float, nan, inf, fin, binary64, of_bits, to_bits, fits, is_nan}
 use lib.Ieee.Scale.{finite}
-use lib.Ieee.Compare.{differs_from_itself}
+use Rattle.std.specs.Float.{float_is_finite}
 use lib.Ieee.Bits.{of_bits-to_bits, to_bits-of_bits}
 use Rattle.image_words.specs.Words.{word32, word64}
 use Rattle.image_store.specs.Stores.{stored, number_at, Bytes}
@@ -117,15 +118,12 @@ long_is l at =
     let hi = word_is l (suc (suc (suc (suc at)))) in
     rw (a, lo, hi) (omega arith)
 
--- `x != x` in code
-pub nan_yes : (x : Float) → ne x x ≡ true → finite x ≡ false
-nan_yes x h = rw (differs_from_itself x (subst T (sym h) tt))
-
-pub nan_no : (x : Float) → ne x x ≡ false → T (not (is_nan x))
-unfolding is_nan ne
-nan_no nan h = subst T h tt
-nan_no (inf s) h = tt
-nan_no (fin s m e) h = tt
+-- what std says that is finite
+pub finite_is : (x : Float) → float_is_finite x ≡ finite x
+unfolding float_is_finite
+finite_is nan = refl
+finite_is (inf s) = refl
+finite_is (fin s m e) = refl
 
 pub finite_no_nan : (x : Float) → finite x ≡ true → T (not (is_nan x))
 unfolding is_nan

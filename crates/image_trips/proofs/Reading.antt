@@ -16,7 +16,6 @@ use lib.Seq.{ext_get_or, take_at}
 use lib.Ieee.{Float, nan}
 use lib.Ieee.Scale.{finite}
 use borrow.Author.Tests.{eq-eqb, ne_eqb}
-use Rattle.map_betas.specs.declared.error.Answer.TheVariants.{Done}
 use Rattle.map_betas.specs.Betas.{darts}
 use Rattle.map_betas.specs.Maps.{Map}
 use Rattle.image_words.specs.Words.{word32}
@@ -34,6 +33,7 @@ use Rattle.image_trips.specs.Trips.{Doubles, GivenBack}
 use Rattle.image_trips.proofs.Flagged.{other_flags}
 use Rattle.image_trips.proofs.Slots.{at_points, points_ascend, points_named}
 use Rattle.image_trips.proofs.Image.{header_says_lem, row_says, flag_says, dart_says, coordinate_says}
+use Rattle.map_betas.specs.Answers.{done}
 
 bit_none : (x : ℕ) → x ≡ 0 → bit_of x ≡ 0
 bit_none x e = ap (λ (b : Bool). cond b 0 1) (eq-eqb x 0 e)
@@ -183,8 +183,8 @@ module _ (rows flags vertices : List ℕ) (coordinates : List Float) (w : Writab
     enough : 1048576 ≤ 1048576
     enough = omega arith
 
-    pub back_answer : after.answer ≡ Done 0 n
-    back_answer = answer_is 1048576 image flags' vertices' coordinates' rows' enough accepted ∙ ap (Done 0) darts_is
+    pub back_answer : after.answer ≡ done 0 n
+    back_answer = answer_is 1048576 image flags' vertices' coordinates' rows' enough accepted ∙ ap (done 0) darts_is
 
     -- record k as the reader finds it
     found_dart : (k : ℕ) → k < v → record_dart image (record_at (darts_of image) k) ≡ get_or ps k 0

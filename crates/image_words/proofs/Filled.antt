@@ -4,14 +4,17 @@
 --   listed_get      which one stands at a place
 --   fill_none       the loan before the first turn
 --   fill_more       the loan one turn on
+--   fill_all        the loan that is full
+--   listed_is, listed_same   a list that has each in its place, and one value at every place
 use mathlib.Core.Path.{◌≡◌, refl, sym, ap, ◌∙◌}
 use mathlib.Core.Logic.{◌≢◌, by_cases}
-use mathlib.Core.List.{List, [], ◌∷◌, ◌++◌, append_assoc}
-use Prim.Native.Nat.{ℕ, zero, suc, ◌+◌, ◌<◌}
+use mathlib.Core.List.{List, [], ◌∷◌, ◌++◌, append_assoc, append-nil}
+use Prim.Native.Nat.{ℕ, zero, suc, ◌+◌, ◌<◌, ◌≤◌}
 use native.Mathlib.Numerals.{add-one}
 use native.Mathlib.Omega.{arith}
 use native.Mathlib.Decide.{ℕ_discrete}
-use lib.ListN.{length, get_or, drop, set, length-append, get_or-append}
+use lib.ListN.{length, get_or, drop, set, replicate, length-append, get_or-append}
+use Rattle.std.proofs.lemmas.List.{ext_get_or, get_or-replicate, length-replicate, drop_all}
 use lib.Seq.{drop-cons, set_at, get_or_at}
 use Rattle.image_words.specs.Lists.{listed}
 
@@ -48,3 +51,17 @@ module _ {A : Type 0} (f : ℕ → A) where
       set l i v ≡ listed f (i + 1) ++ drop (i + 1) old
   fill_more old l i v h e g =
       rw (e, g) (grows (listed f i) old i (f i) (f i) (listed_length i) h ∙ ap (λ (k : List A). k ++ drop (i + 1) old) (step i))
+
+  -- the loan is full
+  pub fill_all : (old l : List A) (i n : ℕ) → i ≡ n → length old ≤ n → l ≡ listed f i ++ drop i old → l ≡ listed f n
+  fill_all old l i n p h e =
+      e ∙ ap (λ (k : ℕ). listed f k ++ drop k old) p ∙ ap (λ (k : List A). listed f n ++ k) (drop_all n old h) ∙ append-nil (listed f n)
+
+  -- a list that has each in its place
+  pub listed_is : (d : A) (l : List A) (n : ℕ) → length l ≡ n → ((k : ℕ) → k < n → get_or l k d ≡ f k) → l ≡ listed f n
+  listed_is d l n e h =
+      ext_get_or d l (listed f n) (e ∙ sym (listed_length n)) (λ k j. h k (omega arith) ∙ sym (listed_get d n k (omega arith)))
+
+  pub listed_same : (n : ℕ) (v : A) → ((k : ℕ) → f k ≡ v) → replicate n v ≡ listed f n
+  listed_same n v e =
+      listed_is v (replicate n v) n (length-replicate n v) (λ k j. get_or-replicate n k v v j ∙ sym (e k))

@@ -1,22 +1,18 @@
 // Numbers that stand in little-endian bytes: words of four bytes, and coordinates of eight.
 #![tactic(auto)]
 
-ghost use Rattle.std.specs.Prelude.{◌≡◌, true, ◌+◌, ◌<◌, ◌≤◌, length};
+ghost use Rattle.std.specs.Prelude.{◌≡◌, true, ◌+◌, ◌≤◌, length, take, drop};
 ghost use Rattle.std.specs.Float.Ieee.Scale.{finite};
 ghost use Rattle.image_words.specs.Words.{word32, word64, coordinate_at};
 
-// A byte as a word.
-fn wide(x: u8) -> u32
-    ensures { (result ≡ x) × (result < 256) }
+// The N bytes from `at` on.
+fn array_at<const N: usize>(bytes: &[u8], at: usize) -> [u8; N]
+    requires { at + N ≤ length bytes.now }
+    ensures { result ≡ take N (drop at bytes.now) }
 {
-    x as u32
-}
-
-// A word as a double word.
-fn long(x: u32) -> u64
-    ensures { (result ≡ x) × (result < 4294967296) }
-{
-    x as u64
+    let mut array = [0; N];
+    array.copy_from_slice(&bytes[at..at + N]);
+    array
 }
 
 // The word of the four bytes from `at` on.
@@ -24,10 +20,7 @@ pub fn word_at(bytes: &[u8], at: usize) -> u32
     requires { at + 4 ≤ length bytes.now }
     ensures { result ≡ word32 bytes.now at }
 {
-    wide(bytes[at])
-        + 256 * wide(bytes[at + 1])
-        + 65536 * wide(bytes[at + 2])
-        + 16777216 * wide(bytes[at + 3])
+    u32::from_le_bytes(array_at(bytes, at))
 }
 
 // The double word of the eight bytes from `at` on.
@@ -35,10 +28,11 @@ fn long_at(bytes: &[u8], at: usize) -> u64
     requires { at + 8 ≤ length bytes.now }
     ensures { result ≡ word64 bytes.now at }
 {
-    long(word_at(bytes, at)) + 4294967296 * long(word_at(bytes, at + 4))
+    u64::from_le_bytes(array_at(bytes, at))
 }
 
 // Whether the coordinate of the eight bytes from `at` on is neither a NaN nor an infinity: its exponent is not all ones.
+// Stays: std's `is_finite` takes a double, and `from_bits` takes no pattern of a NaN, which is what is asked here.
 pub fn finite_at(bytes: &[u8], at: usize) -> bool
     requires { at + 8 ≤ length bytes.now }
     ensures { result ≡ finite (coordinate_at bytes.now at) }

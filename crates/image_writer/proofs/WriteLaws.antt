@@ -17,13 +17,11 @@ use lib.Seq.{sets, length-take-le}
 use lib.Dec.{eqb, ltb}
 use lib.Ieee.{Float}
 use borrow.Author.Tests.{eq-eqb, ne_eqb, eqb-true, lt-ltb, le-ltb}
-use Rattle.map_betas.specs.declared.error.Answer.{Answer}
-use Rattle.map_betas.specs.declared.error.Answer.TheVariants.{Done, Refused}
 use Rattle.map_betas.specs.declared.error.Refusal.TheVariants.{BadImage, ImageRoom}
 use Rattle.map_betas.specs.Betas.{darts}
-use Rattle.map_betas.specs.Answers.{outcome, pass, is_done, and_then, behind}
+use Rattle.map_betas.specs.Answers.{outcome, pass, behind, Test, done}
 use Rattle.map_betas.specs.Guards.{reader_loans, guard_of, Ready}
-use Rattle.map_betas.proofs.AnswerLaws.{first_done, then_done}
+use Rattle.map_betas.proofs.AnswerLaws.{stops, goes_on, first_done, then_done}
 use Rattle.map_betas.proofs.GuardLaws.{ready}
 use Rattle.map_betas.proofs.Guarded.{guard_iff}
 use Rattle.image_form.specs.Form.{form1, header_words, flag_offset, vertex_offset, total_bytes}
@@ -34,61 +32,66 @@ use Rattle.image_blocks.specs.Image.{bit, points, finite_from, record_bytes, ima
 use Rattle.image_blocks.proofs.PointLaws.{points_few, records_length}
 use Rattle.image_blocks.proofs.LaidLaws.{four_parts}
 use Rattle.image_writer.specs.Writes.{write_test, written, write_image, Writable}
+use Rattle.std.specs.Prelude.{⊤, Err, Ok, is_ok, IsErrAnd}
+use Rattle.map_betas.specs.declared.error.Refusal.{Refusal}
+use Rattle.map_betas.specs.declared.loans.Loans.{Loans}
 
 module _ (rows flags vertices : List ℕ) (coordinates : List Float) where
-  abbrev guarded : Answer
+  abbrev guarded : Test
   guarded = guard_of rows flags (reader_loans (length vertices) (length coordinates)) 0 0 0
 
-  abbrev after : Answer
+  abbrev after : Test
   after = unless (eqb (get_or flags 0 0) 0) 7 (unless (finite_from vertices coordinates 1 (darts rows - 1)) 8 pass)
 
-  -- ---- the test, case by case, g being what the guard answered
+  -- ---- the test, case by case, g and l being what the code has
 
-  pub guard_refused : (g : Answer) → g ≡ guarded → is_done g ≡ false → g ≡ write_test rows flags vertices coordinates
-  unfolding write_test
-  guard_refused (Done d k) e t = absurd (true≢false t)
-  guard_refused (Refused w) e t = ap (λ (a : Answer). and_then a after) e
+  module _ {g : Test} {l : Loans} (el : l ≡ reader_loans (length vertices) (length coordinates)) (eg : g ≡ guard_of rows flags l 0 0 0) where
+    e : g ≡ guarded
+    e = eg ∙ ap (λ (k : Loans). guard_of rows flags k 0 0 0) el
 
-  guard_passed : (g : Answer) → g ≡ guarded → is_done g ≡ true → after ≡ write_test rows flags vertices coordinates
-  unfolding write_test
-  guard_passed (Done d k) e t = ap (λ (a : Answer). and_then a after) e
-  guard_passed (Refused w) e t = absurd (true≢false (sym t))
+    pub guard_refused : {w : Refusal} (r : Test) → g ≡ Err w → IsErrAnd r (λ x. x ≡ w) → r ≡ write_test rows flags vertices coordinates
+    unfolding write_test
+    guard_refused r d q = stops e r after d q
 
-  module _ (g : Answer) (e : g ≡ guarded) (t : is_done g ≡ true) where
-    pub flag_refused : get_or flags 0 0 ≢ 0 → Refused (BadImage 7) ≡ write_test rows flags vertices coordinates
-    unfolding unless
-    flag_refused h =
-        sym (ap (λ (b : Bool). unless b 7 (unless (finite_from vertices coordinates 1 (darts rows - 1)) 8 pass)) (ne_eqb (get_or flags 0 0) 0 h))
-        ∙ guard_passed g e t
+    module _ {x : ⊤} (t : g ≡ Ok x) where
+      guard_passed : after ≡ write_test rows flags vertices coordinates
+      unfolding write_test
+      guard_passed = goes_on e after t
 
-    module _ (h : get_or flags 0 0 ≡ 0) where
-      null_fine : unless (finite_from vertices coordinates 1 (darts rows - 1)) 8 pass ≡ write_test rows flags vertices coordinates
+      pub flag_refused : get_or flags 0 0 ≢ 0 → Err (BadImage 7) ≡ write_test rows flags vertices coordinates
       unfolding unless
-      null_fine =
-          sym (ap (λ (b : Bool). unless b 7 (unless (finite_from vertices coordinates 1 (darts rows - 1)) 8 pass)) (eq-eqb (get_or flags 0 0) 0 h))
-          ∙ guard_passed g e t
+      flag_refused h =
+          sym (ap (λ (b : Bool). unless b 7 (unless (finite_from vertices coordinates 1 (darts rows - 1)) 8 pass)) (ne_eqb (get_or flags 0 0) 0 h))
+          ∙ guard_passed
 
-      pub point_refused : finite_from vertices coordinates 1 (darts rows - 1) ≡ false → Refused (BadImage 8) ≡ write_test rows flags vertices coordinates
-      unfolding unless
-      point_refused f = sym (ap (λ (b : Bool). unless b 8 pass) f) ∙ null_fine
+      module _ (h : get_or flags 0 0 ≡ 0) where
+        null_fine : unless (finite_from vertices coordinates 1 (darts rows - 1)) 8 pass ≡ write_test rows flags vertices coordinates
+        unfolding unless
+        null_fine =
+            sym (ap (λ (b : Bool). unless b 7 (unless (finite_from vertices coordinates 1 (darts rows - 1)) 8 pass)) (eq-eqb (get_or flags 0 0) 0 h))
+            ∙ guard_passed
 
-      pub test_passes : finite_from vertices coordinates 1 (darts rows - 1) ≡ true → pass ≡ write_test rows flags vertices coordinates
-      unfolding unless
-      test_passes f = sym (ap (λ (b : Bool). unless b 8 pass) f) ∙ null_fine
+        pub point_refused : finite_from vertices coordinates 1 (darts rows - 1) ≡ false → Err (BadImage 8) ≡ write_test rows flags vertices coordinates
+        unfolding unless
+        point_refused f = sym (ap (λ (b : Bool). unless b 8 pass) f) ∙ null_fine
 
-    pub guard_facts : (1 ≤ darts rows) × (darts rows ≤ 1048576) × (darts rows ≤ length flags) × (darts rows ≤ length vertices)
-        × (3 * darts rows ≤ length coordinates)
-    guard_facts =
-        let r : Ready rows flags (reader_loans (length vertices) (length coordinates)) 0 0 0 = ready rows flags _ 0 0 0 (sym (ap is_done e) ∙ t) in
-        (r.map.formed.sized.some, r.map.formed.sized.few, r.map.flagged, r.lent.vertices, r.lent.coordinates)
+        pub test_passes : finite_from vertices coordinates 1 (darts rows - 1) ≡ true → pass ≡ write_test rows flags vertices coordinates
+        unfolding unless
+        test_passes f = sym (ap (λ (b : Bool). unless b 8 pass) f) ∙ null_fine
+
+      pub guard_facts : (1 ≤ darts rows) × (darts rows ≤ 1048576) × (darts rows ≤ length flags) × (darts rows ≤ length vertices)
+          × (3 * darts rows ≤ length coordinates)
+      guard_facts =
+          let r : Ready rows flags (reader_loans (length vertices) (length coordinates)) 0 0 0 = ready rows flags _ 0 0 0 (ap is_ok (sym e ∙ t)) in
+          (r.map.formed.sized.some, r.map.formed.sized.few, r.map.flagged, r.lent.vertices, r.lent.coordinates)
 
   -- ---- where it passes
 
-  pub writable : is_done (write_test rows flags vertices coordinates) ≡ true → Writable rows flags vertices coordinates
+  pub writable : is_ok (write_test rows flags vertices coordinates) ≡ true → Writable rows flags vertices coordinates
   unfolding write_test unless
   writable t =
       let r : Ready rows flags (reader_loans (length vertices) (length coordinates)) 0 0 0 = ready rows flags _ 0 0 0 (first_done guarded after t) in
-      let s : is_done after ≡ true = then_done guarded after t in
+      let s : is_ok after ≡ true = then_done guarded after t in
       let p = parts (eqb (get_or flags 0 0) 0) (finite_from vertices coordinates 1 (darts rows - 1)) s in
       record {
         map = r.map;
@@ -98,7 +101,7 @@ module _ (rows flags vertices : List ℕ) (coordinates : List Float) where
         finite = p.1;
       }
     where
-      parts : (a b : Bool) → is_done (cond a (cond b pass (Refused (BadImage 8))) (Refused (BadImage 7))) ≡ true → (a ≡ true) × (b ≡ true)
+      parts : (a b : Bool) → is_ok (cond a (cond b pass (Err (BadImage 8))) (Err (BadImage 7))) ≡ true → (a ≡ true) × (b ≡ true)
       parts true true q = (refl, refl)
       parts true false q = absurd (true≢false (sym q))
       parts false b q = absurd (true≢false (sym q))
@@ -123,15 +126,15 @@ module _ (rows flags vertices : List ℕ) (coordinates : List Float) where
         used_left = λ h. absurd (omega arith);
         used_right = λ h. absurd (omega arith);
       }) in
-      sym (test_passes guarded refl (ap is_done g) w.null w.finite)
+      sym (test_passes refl refl g w.null w.finite)
 
-  pub write_iff : (is_done (write_test rows flags vertices coordinates) ≡ true) ↔ Writable rows flags vertices coordinates
-  write_iff = (writable, λ w. ap is_done (passes w))
+  pub write_iff : (is_ok (write_test rows flags vertices coordinates) ≡ true) ↔ Writable rows flags vertices coordinates
+  write_iff = (writable, λ w. ap is_ok (passes w))
 
   pub writes : Writable rows flags vertices coordinates → (bytes : List ℕ) →
       write_image rows flags vertices coordinates bytes ≡ written (image_of rows flags vertices coordinates) bytes
   unfolding write_image
-  writes w bytes = ap (λ (t : Answer). behind t bytes (written (image_of rows flags vertices coordinates) bytes)) (passes w)
+  writes w bytes = ap (λ (t : Test). behind t bytes (written (image_of rows flags vertices coordinates) bytes)) (passes w)
 
 -- ---- the image
 
@@ -203,16 +206,16 @@ module _ (rows flags vertices : List ℕ) (coordinates : List Float) (w : Writab
 -- ---- the room
 
 module _ (image bytes : List ℕ) (total : ℕ) (e : total ≡ length image) where
-  pub room_short : length bytes < total → outcome (Refused (ImageRoom total)) bytes ≡ written image bytes
+  pub room_short : length bytes < total → outcome (Err (ImageRoom total)) bytes ≡ written image bytes
   unfolding written
   room_short h =
       let b : ltb (length bytes) (length image) ≡ true = lt-ltb (length bytes) (length image) (omega arith) in
-      ap (λ (k : ℕ). outcome (Refused (ImageRoom k)) bytes) e
-      ∙ sym (ap (λ (c : Bool). cond c (outcome (Refused (ImageRoom (length image))) bytes) (outcome (Done 0 (length image)) (sets bytes 0 image))) b)
+      ap (λ (k : ℕ). outcome (Err (ImageRoom k)) bytes) e
+      ∙ sym (ap (λ (c : Bool). cond c (outcome (Err (ImageRoom (length image))) bytes) (outcome (done 0 (length image)) (sets bytes 0 image))) b)
 
-  pub room_enough : total ≤ length bytes → (new : List ℕ) → new ≡ sets bytes 0 image → outcome (Done 0 total) new ≡ written image bytes
+  pub room_enough : total ≤ length bytes → (new : List ℕ) → new ≡ sets bytes 0 image → outcome (done 0 total) new ≡ written image bytes
   unfolding written
   room_enough h new g =
       let b : ltb (length bytes) (length image) ≡ false = le-ltb (length bytes) (length image) (omega arith) in
-      ap (λ (k : ℕ). outcome (Done 0 k) new) e ∙ ap (λ (l : List ℕ). outcome (Done 0 (length image)) l) g
-      ∙ sym (ap (λ (c : Bool). cond c (outcome (Refused (ImageRoom (length image))) bytes) (outcome (Done 0 (length image)) (sets bytes 0 image))) b)
+      ap (λ (k : ℕ). outcome (done 0 k) new) e ∙ ap (λ (l : List ℕ). outcome (done 0 (length image)) l) g
+      ∙ sym (ap (λ (c : Bool). cond c (outcome (Err (ImageRoom (length image))) bytes) (outcome (done 0 (length image)) (sets bytes 0 image))) b)

@@ -7,28 +7,33 @@ ghost use Rattle.image_blocks.specs.Image.{points, image_of};
 ghost use Rattle.image_writer.specs.Writes.{write_test, written, write_image, Writable};
 
 use image_blocks::blocks::{put_flags, put_header, put_words};
-use image_form::form::{ROW_OFFSET, flag_offset, total_bytes, vertex_offset};
+use image_form::form::{Darts, ROW_OFFSET, flag_offset, total_bytes, vertex_offset};
 use image_points::points::{count_points, points_finite, put_points};
-use map_betas::error::{Answer, Refusal, is_done};
+use map_betas::error::{Answer, Done, Refusal};
 use map_betas::loans::reader_loans;
 use map_guard::guard::guard;
 
 // Refuses rows and flags that are no map, loans that are too short, a null dart that is unused, a point that is not finite.
-fn write_test(rows: &[u32], flags: &[u8], vertices: &[u8], coordinates: &[f64]) -> Answer
+fn write_test(
+    rows: &[u32],
+    flags: &[u8],
+    vertices: &[u8],
+    coordinates: &[f64],
+) -> Result<(), Refusal>
     ensures { result ≡ write_test rows.now flags.now vertices.now coordinates.now }
 {
     let loans = reader_loans(vertices.len(), coordinates.len());
-    let g = guard(rows, flags, loans, 0, 0, 0);
-    if !is_done(g) {
-        return g;
-    }
+    guard(rows, flags, loans, 0, 0, 0)?;
     if flags[0] != 0 {
-        return Answer::Refused(Refusal::BadImage(7));
+        return Err(Refusal::BadImage(7));
     }
-    if !points_finite(vertices, coordinates, rows.len() / 4) {
-        return Answer::Refused(Refusal::BadImage(8));
+    let n = Darts {
+        number: (rows.len() / 4) as u32,
+    };
+    if !points_finite(vertices, coordinates, n) {
+        return Err(Refusal::BadImage(8));
     }
-    Answer::Done(0, 0)
+    Ok(())
 }
 
 // Lays the image, of v records, from the start of the bytes.
@@ -45,17 +50,13 @@ fn put_image(
     ensures { bytes.new
         ≡ sets bytes.old 0 (image_of rows.now flags.now vertices.now coordinates.now) }
 {
-    let n = rows.len() / 4;
-    put_header(bytes, n as u32, v);
+    let n = Darts {
+        number: (rows.len() / 4) as u32,
+    };
+    put_header(bytes, n, v);
     put_words(bytes, ROW_OFFSET as usize, rows);
-    put_flags(bytes, flag_offset(n as u32) as usize, flags, n);
-    put_points(
-        bytes,
-        vertex_offset(n as u32) as usize,
-        vertices,
-        coordinates,
-        n,
-    );
+    put_flags(bytes, flag_offset(n) as usize, flags, n.number as usize);
+    put_points(bytes, vertex_offset(n) as usize, vertices, coordinates, n);
 }
 
 // Writes the image of a map that only room can keep from being written.
@@ -70,14 +71,19 @@ fn write_tested(
     ensures { outcome result bytes.new
         ≡ written (image_of rows.now flags.now vertices.now coordinates.now) bytes.old }
 {
-    let n = rows.len() / 4;
+    let n = Darts {
+        number: (rows.len() / 4) as u32,
+    };
     let v = count_points(vertices, n);
-    let total = total_bytes(n as u32, v) as usize;
+    let total = total_bytes(n, v) as usize;
     if bytes.len() < total {
-        return Answer::Refused(Refusal::ImageRoom(total));
+        return Err(Refusal::ImageRoom(total));
     }
     put_image(rows, flags, vertices, coordinates, bytes, v);
-    Answer::Done(0, total)
+    Ok(Done {
+        value: 0,
+        count: total,
+    })
 }
 
 // Writes an image of form 1.
@@ -91,9 +97,6 @@ pub fn write_image(
     ensures { outcome result bytes.new
         ≡ write_image rows.now flags.now vertices.now coordinates.now bytes.old }
 {
-    let t = write_test(rows, flags, vertices, coordinates);
-    if !is_done(t) {
-        return t;
-    }
+    write_test(rows, flags, vertices, coordinates)?;
     write_tested(rows, flags, vertices, coordinates, bytes)
 }

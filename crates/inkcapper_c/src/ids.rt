@@ -4,6 +4,8 @@ ghost use Rattle.cell_names.specs.Calls.{id_call};
 ghost use Rattle.cell_steps.specs.declared.cells.Class.TheVariants.{Vertex, Edge, Face, Volume};
 ghost use Rattle.map_betas.specs.Flat.{crossing, crossed};
 
+use inkcapper::{Class, hand_on};
+
 // The least dart of d's vertex.
 #[unsafe(no_mangle)]
 pub extern "C" fn inkcapper_vertex_id(
@@ -17,7 +19,10 @@ pub extern "C" fn inkcapper_vertex_id(
     ensures { crossing result values.new (marks.new, queue.new)
         ≡ crossed (id_call rows.now marks.old queue.old flags.now Vertex d) }
 {
-    inkcapper::ids::inkcapper_vertex_id(rows, marks, queue, flags, d, values)
+    hand_on(
+        inkcapper::cell_id(rows, marks, queue, flags, Class::Vertex, d),
+        values,
+    )
 }
 
 // The least dart of d's edge.
@@ -33,7 +38,10 @@ pub extern "C" fn inkcapper_edge_id(
     ensures { crossing result values.new (marks.new, queue.new)
         ≡ crossed (id_call rows.now marks.old queue.old flags.now Edge d) }
 {
-    inkcapper::ids::inkcapper_edge_id(rows, marks, queue, flags, d, values)
+    hand_on(
+        inkcapper::cell_id(rows, marks, queue, flags, Class::Edge, d),
+        values,
+    )
 }
 
 // The face identifier of d, as the Rust walks it.
@@ -49,7 +57,10 @@ pub extern "C" fn inkcapper_face_id(
     ensures { crossing result values.new (marks.new, queue.new)
         ≡ crossed (id_call rows.now marks.old queue.old flags.now Face d) }
 {
-    inkcapper::ids::inkcapper_face_id(rows, marks, queue, flags, d, values)
+    hand_on(
+        inkcapper::cell_id(rows, marks, queue, flags, Class::Face, d),
+        values,
+    )
 }
 
 // The least dart of d's volume.
@@ -65,5 +76,8 @@ pub extern "C" fn inkcapper_volume_id(
     ensures { crossing result values.new (marks.new, queue.new)
         ≡ crossed (id_call rows.now marks.old queue.old flags.now Volume d) }
 {
-    inkcapper::ids::inkcapper_volume_id(rows, marks, queue, flags, d, values)
+    hand_on(
+        inkcapper::cell_id(rows, marks, queue, flags, Class::Volume, d),
+        values,
+    )
 }

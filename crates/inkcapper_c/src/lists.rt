@@ -4,6 +4,8 @@ ghost use Rattle.cell_names.specs.Calls.{list_call};
 ghost use Rattle.cell_steps.specs.declared.cells.Class.TheVariants.{Vertex, Edge, Face, Volume};
 ghost use Rattle.map_betas.specs.Flat.{crossing, crossed};
 
+use inkcapper::{Class, hand_on};
+
 // Lists the vertices of darts that are not unused, ascending.
 #[unsafe(no_mangle)]
 pub extern "C" fn inkcapper_list_vertices(
@@ -17,7 +19,10 @@ pub extern "C" fn inkcapper_list_vertices(
     ensures { crossing result values.new (marks.new, queue.new, output.new)
         ≡ crossed (list_call rows.now marks.old queue.old output.old flags.now Vertex) }
 {
-    inkcapper::lists::inkcapper_list_vertices(rows, marks, queue, output, flags, values)
+    hand_on(
+        inkcapper::list_cells(rows, marks, queue, output, flags, Class::Vertex),
+        values,
+    )
 }
 
 // Lists the edges of darts that are not unused, ascending.
@@ -33,7 +38,10 @@ pub extern "C" fn inkcapper_list_edges(
     ensures { crossing result values.new (marks.new, queue.new, output.new)
         ≡ crossed (list_call rows.now marks.old queue.old output.old flags.now Edge) }
 {
-    inkcapper::lists::inkcapper_list_edges(rows, marks, queue, output, flags, values)
+    hand_on(
+        inkcapper::list_cells(rows, marks, queue, output, flags, Class::Edge),
+        values,
+    )
 }
 
 // Lists the faces of darts that are not unused, ascending.
@@ -49,7 +57,10 @@ pub extern "C" fn inkcapper_list_faces(
     ensures { crossing result values.new (marks.new, queue.new, output.new)
         ≡ crossed (list_call rows.now marks.old queue.old output.old flags.now Face) }
 {
-    inkcapper::lists::inkcapper_list_faces(rows, marks, queue, output, flags, values)
+    hand_on(
+        inkcapper::list_cells(rows, marks, queue, output, flags, Class::Face),
+        values,
+    )
 }
 
 // Lists the volumes of darts that are not unused, ascending.
@@ -65,5 +76,8 @@ pub extern "C" fn inkcapper_list_volumes(
     ensures { crossing result values.new (marks.new, queue.new, output.new)
         ≡ crossed (list_call rows.now marks.old queue.old output.old flags.now Volume) }
 {
-    inkcapper::lists::inkcapper_list_volumes(rows, marks, queue, output, flags, values)
+    hand_on(
+        inkcapper::list_cells(rows, marks, queue, output, flags, Class::Volume),
+        values,
+    )
 }

@@ -4,6 +4,8 @@ ghost use Rattle.cell_steps.specs.Calls.{orbit_call, custom_call};
 ghost use Rattle.cell_steps.specs.declared.policy.OrbitPolicy.TheVariants.{Vertex, VertexLinear, Edge, Face, FaceLinear, Volume, VolumeLinear};
 ghost use Rattle.map_betas.specs.Flat.{crossing, crossed};
 
+use inkcapper::{OrbitPolicy, hand_on};
+
 // Lists the Vertex orbit of d, first found first.
 #[unsafe(no_mangle)]
 pub extern "C" fn inkcapper_orbit_vertex(
@@ -17,7 +19,10 @@ pub extern "C" fn inkcapper_orbit_vertex(
     ensures { crossing result values.new (marks.new, output.new)
         ≡ crossed (orbit_call rows.now marks.old output.old flags.now Vertex d) }
 {
-    inkcapper::orbits::inkcapper_orbit_vertex(rows, marks, output, flags, d, values)
+    hand_on(
+        inkcapper::orbit(rows, marks, output, flags, OrbitPolicy::Vertex, d),
+        values,
+    )
 }
 
 // Lists the VertexLinear orbit of d, first found first.
@@ -33,7 +38,10 @@ pub extern "C" fn inkcapper_orbit_vertex_linear(
     ensures { crossing result values.new (marks.new, output.new)
         ≡ crossed (orbit_call rows.now marks.old output.old flags.now VertexLinear d) }
 {
-    inkcapper::orbits::inkcapper_orbit_vertex_linear(rows, marks, output, flags, d, values)
+    hand_on(
+        inkcapper::orbit(rows, marks, output, flags, OrbitPolicy::VertexLinear, d),
+        values,
+    )
 }
 
 // Lists the Edge orbit of d, first found first.
@@ -49,7 +57,10 @@ pub extern "C" fn inkcapper_orbit_edge(
     ensures { crossing result values.new (marks.new, output.new)
         ≡ crossed (orbit_call rows.now marks.old output.old flags.now Edge d) }
 {
-    inkcapper::orbits::inkcapper_orbit_edge(rows, marks, output, flags, d, values)
+    hand_on(
+        inkcapper::orbit(rows, marks, output, flags, OrbitPolicy::Edge, d),
+        values,
+    )
 }
 
 // Lists the Face orbit of d, first found first.
@@ -65,7 +76,10 @@ pub extern "C" fn inkcapper_orbit_face(
     ensures { crossing result values.new (marks.new, output.new)
         ≡ crossed (orbit_call rows.now marks.old output.old flags.now Face d) }
 {
-    inkcapper::orbits::inkcapper_orbit_face(rows, marks, output, flags, d, values)
+    hand_on(
+        inkcapper::orbit(rows, marks, output, flags, OrbitPolicy::Face, d),
+        values,
+    )
 }
 
 // Lists the FaceLinear orbit of d, first found first.
@@ -81,7 +95,10 @@ pub extern "C" fn inkcapper_orbit_face_linear(
     ensures { crossing result values.new (marks.new, output.new)
         ≡ crossed (orbit_call rows.now marks.old output.old flags.now FaceLinear d) }
 {
-    inkcapper::orbits::inkcapper_orbit_face_linear(rows, marks, output, flags, d, values)
+    hand_on(
+        inkcapper::orbit(rows, marks, output, flags, OrbitPolicy::FaceLinear, d),
+        values,
+    )
 }
 
 // Lists the Volume orbit of d, first found first.
@@ -97,7 +114,10 @@ pub extern "C" fn inkcapper_orbit_volume(
     ensures { crossing result values.new (marks.new, output.new)
         ≡ crossed (orbit_call rows.now marks.old output.old flags.now Volume d) }
 {
-    inkcapper::orbits::inkcapper_orbit_volume(rows, marks, output, flags, d, values)
+    hand_on(
+        inkcapper::orbit(rows, marks, output, flags, OrbitPolicy::Volume, d),
+        values,
+    )
 }
 
 // Lists the VolumeLinear orbit of d, first found first.
@@ -113,7 +133,10 @@ pub extern "C" fn inkcapper_orbit_volume_linear(
     ensures { crossing result values.new (marks.new, output.new)
         ≡ crossed (orbit_call rows.now marks.old output.old flags.now VolumeLinear d) }
 {
-    inkcapper::orbits::inkcapper_orbit_volume_linear(rows, marks, output, flags, d, values)
+    hand_on(
+        inkcapper::orbit(rows, marks, output, flags, OrbitPolicy::VolumeLinear, d),
+        values,
+    )
 }
 
 // Lists the orbit of d under the listed betas, in their order.
@@ -130,5 +153,8 @@ pub extern "C" fn inkcapper_orbit_custom(
     ensures { crossing result values.new (marks.new, output.new)
         ≡ crossed (custom_call rows.now marks.old output.old flags.now betas.now d) }
 {
-    inkcapper::orbits::inkcapper_orbit_custom(rows, marks, output, flags, betas, d, values)
+    hand_on(
+        inkcapper::orbit_custom(rows, marks, output, flags, betas, d),
+        values,
+    )
 }

@@ -1,4 +1,4 @@
-// The second leg: back from ld along an open face, once the first leg is over.
+// The second leg: back from the darts of the call along an open face, once the first leg is over.
 ghost use Rattle.std.specs.Prelude.{◌≡◌, cond, ◌<◌};
 ghost use Rattle.map_betas.specs.Betas.{darts};
 ghost use Rattle.map_betas.specs.Maps.{WellFormed};
@@ -6,25 +6,26 @@ ghost use Rattle.map_betas.specs.Answers.{out};
 ghost use Rattle.link_walk.specs.Undo.{undone};
 ghost use Rattle.link_walk.specs.Three.{leg_back, last_leg};
 
-use link_walk::walk::{former, undo_leg, walk_leg};
-use map_betas::betas::beta_at;
-use map_betas::error::{Answer, is_done};
+use link_walk::pair::Pair;
+use link_walk::step::Step;
+use link_walk::walk::{undo_leg, walk_leg};
+use map_betas::error::{Answer, Done};
 
-// The second leg, back from ld. After a refusal the pairs of both legs are set back, of the first as many as steps.
-pub fn back(rows: &mut [u32], parting: bool, ld: u32, rd: u32, steps: usize) -> Answer
-    requires { WellFormed rows.old × (ld < darts rows.old) × (rd < darts rows.old) }
-    ensures { out result rows.new ≡ last_leg (cond parting rd 0) (undone parting steps rows.old 1 0 ld rd)
-        (leg_back parting rows.old ld rd) }
+// The second leg, back from the pair of the call. After a refusal the pairs of both legs are set back, of the first as many as steps.
+pub fn back<S: Step>(rows: &mut [u32], call: Pair, steps: usize) -> Answer
+    requires { WellFormed rows.old × (call.l < darts rows.old) × (call.r < darts rows.old) }
+    ensures { out result rows.new ≡ last_leg (cond S.parting call.r 0) (undone S.parting steps rows.old 1 0 call.l call.r)
+        (leg_back S.parting rows.old call.l call.r) }
 {
-    let l = beta_at(rows, 0, ld);
-    let r = beta_at(rows, 1, rd);
-    let w = walk_leg(rows, parting, 0, 1, 0, ld, rd, l, r);
-    let last = w.answer;
-    if !is_done(last) {
-        let taken = w.steps;
-        undo_leg(rows, parting, 0, 1, l, r, taken);
-        undo_leg(rows, parting, 1, 0, ld, rd, steps);
-        return last;
+    let first = call.next(rows, 0, 1);
+    let leg = walk_leg::<S>(rows, 0, 1, 0, call, first);
+    if let Err(refusal) = leg.answer {
+        undo_leg::<S>(rows, 0, 1, first, leg.steps);
+        undo_leg::<S>(rows, 1, 0, call, steps);
+        return Err(refusal);
     }
-    Answer::Done(former(parting, rd), 0)
+    Ok(Done {
+        value: S::former(call.r),
+        count: 0,
+    })
 }

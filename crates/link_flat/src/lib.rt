@@ -1,6 +1,4 @@
 // The 1- and 2-links and unlinks.
 #![tactic(auto)]
 
-mod bare;
-pub mod one;
-pub mod two;
+pub mod flat;

@@ -17,7 +17,7 @@ use mathlib.Core.Bool.{Bool, true, false, cond}
 use lib.ListN.{length}
 use borrow.Author.Tests.{eq-eqb, ne_eqb}
 use Rattle.map_betas.specs.Betas.{beta, darts}
-use Rattle.map_betas.specs.Answers.{Out, is_done}
+use Rattle.map_betas.specs.Answers.{Out}
 use Rattle.map_betas.specs.Maps.{WellFormed}
 use Rattle.map_betas.proofs.Stores.{paired}
 use Rattle.map_betas.specs.Chains.{far}
@@ -31,6 +31,7 @@ use Rattle.link_glue.proofs.Turns.{said_done, step_again}
 use Rattle.link_glue.proofs.Trace.{Trace}
 use Rattle.link_glue.proofs.Found.{leaves₁, trace₁}
 use Rattle.link_glue.proofs.Fresh.{Fresh, finishes}
+use Rattle.std.specs.Prelude.{is_ok}
 
 pub record Partners (rows : List ℕ) (ld rd : ℕ) (p : ℕ → ℕ) : Type 0 where
   pub starts : p ld ≡ rd
@@ -149,7 +150,7 @@ module _ (parting : Bool) (rows : List ℕ) (ld rd : ℕ) (p : ℕ → ℕ) (s :
   low₁ : (b d : ℕ) → b < 3 → beta rows₁ b d ≡ beta rows b d
   low₁ = changed_low parting rows ld rd rows₁ s pair₁ hl hr nl
 
-  leg₁ : is_done (leg_on parting rows₁ ld rd).leg.answer ≡ true
+  leg₁ : is_ok (leg_on parting rows₁ ld rd).leg.answer ≡ true
   leg₁ =
       let k = changed_length parting rows ld rd rows₁ s pair₁ hl hr nl in
       let z = changeable_le parting rows₁ in
@@ -160,7 +161,7 @@ module _ (parting : Bool) (rows : List ℕ) (ld rd : ℕ) (p : ℕ → ℕ) (s :
       fresh₁)
 
   -- the second leg, where the first came to an end
-  module _ (w : LegOut) (m : ℕ) (v : Trace parting rows 1 0 ld rows ld rd (suc m) w) (zl : w.leg.l ≡ 0) where
+  module _ (w : LegOut) (m : ℕ) (v : Trace parting rows 1 0 ld rows ld rd (suc m) w) (zl : w.leg.pair.l ≡ 0) where
     end_front : far rows 1 (suc m) ld ≡ 0
     end_front = sym v.end_l ∙ zl
 
@@ -173,7 +174,7 @@ module _ (parting : Bool) (rows : List ℕ) (ld rd : ℕ) (p : ℕ → ℕ) (s :
     pub partner : (t : ℕ) → t < suc m → p (far rows 1 t ld) ≡ far rows 0 t rd
     partner t h = along t (λ u k. (v.real_l (suc u) (omega arith), λ c. absurd (not_closed c)))
 
-    null_for_null : w.leg.r ≡ 0
+    null_for_null : w.leg.pair.r ≡ 0
     null_for_null =
         v.end_r
         ∙ far_last rows 0 m rd
@@ -262,9 +263,9 @@ module _ (parting : Bool) (rows : List ℕ) (ld rd : ℕ) (p : ℕ → ℕ) (s :
         }
 
   -- the whole
-  second : (w : LegOut) → leg_on parting rows₁ ld rd ≡ w → w.leg.l ≡ 0 → (w.leg.r ≡ 0) × (is_done (leg_back parting w.rows ld rd).leg.answer ≡ true)
+  second : (w : LegOut) → leg_on parting rows₁ ld rd ≡ w → w.leg.pair.l ≡ 0 → (w.leg.pair.r ≡ 0) × (is_ok (leg_back parting w.rows ld rd).leg.answer ≡ true)
   second w e zl =
-      let t : is_done w.leg.answer ≡ true = ap (λ (x : LegOut). is_done x.leg.answer) (sym e) ∙ leg₁ in
+      let t : is_ok w.leg.answer ≡ true = ap (λ (x : LegOut). is_ok x.leg.answer) (sym e) ∙ leg₁ in
       let v = trace₁ parting rows ld rd s hl nl hr rows₁ pair₁ w e t in
       let g = leaves₁ parting rows ld rd s hl nl hr rows₁ pair₁ w e in
       let low = g.low in
@@ -278,19 +279,19 @@ module _ (parting : Bool) (rows : List ℕ) (ld rd : ℕ) (p : ℕ → ℕ) (s :
             g.formed (omega arith) (omega arith) low (omega arith) (fresh₂ w v.0 v.1 zl)),
       )
 
-  finish : (x : ℕ) (w : LegOut) → leg_on parting rows₁ ld rd ≡ w → is_done (after_leg parting x rows ld rd w).answer ≡ true
+  finish : (x : ℕ) (w : LegOut) → leg_on parting rows₁ ld rd ≡ w → is_ok (after_leg parting x rows ld rd w).answer ≡ true
   finish x w e =
-      let t : is_done w.leg.answer ≡ true = ap (λ (y : LegOut). is_done y.leg.answer) (sym e) ∙ leg₁ in
-      by_cases (ℕ_discrete w.leg.l 0)
-      (λ (z : w.leg.l ≡ 0).
+      let t : is_ok w.leg.answer ≡ true = ap (λ (y : LegOut). is_ok y.leg.answer) (sym e) ∙ leg₁ in
+      by_cases (ℕ_discrete w.leg.pair.l 0)
+      (λ (z : w.leg.pair.l ≡ 0).
       let y = second w e z in
-      simp (t, eq-eqb w.leg.l 0 z, eq-eqb w.leg.r 0 y.0, y.1))
-      (λ (z : w.leg.l ≢ 0). simp (t, ne_eqb w.leg.l 0 z))
+      simp (t, eq-eqb w.leg.pair.l 0 z, eq-eqb w.leg.pair.r 0 y.0, y.1))
+      (λ (z : w.leg.pair.l ≢ 0). simp (t, ne_eqb w.leg.pair.l 0 z))
 
   -- x is the dart to answer
-  pub asked : (x : ℕ) → is_done (after_core parting x rows ld rd (step_of parting ld rd rows ld rd)).answer ≡ true
+  pub asked : (x : ℕ) → is_ok (after_core parting x rows ld rd (step_of parting ld rd rows ld rd)).answer ≡ true
   asked x =
-      ap (λ (o : Out). is_done (after_core parting x rows ld rd o).answer) (sym (step_again parting ld rd rows ld rd rows₁ pair₁))
+      ap (λ (o : Out). is_ok (after_core parting x rows ld rd o).answer) (sym (step_again parting ld rd rows ld rd rows₁ pair₁))
       ∙ simp (said_done parting rd) (finish x (leg_on parting rows₁ ld rd) refl)
 
 -- a matching, and a chain whose darts face their images, are such partners
@@ -311,15 +312,15 @@ unlink_partners rows ld rd s e q =
     }
 
 module _ (rows : List ℕ) (ld rd : ℕ) (s : WellFormed rows) (nl : ld ≢ 0) (hl : ld < darts rows) where
-  pub link_asked : (p : ℕ → ℕ) → rd < darts rows → Matching rows ld rd p → is_done (three_link_on rows ld rd).answer ≡ true
+  pub link_asked : (p : ℕ → ℕ) → rd < darts rows → Matching rows ld rd p → is_ok (three_link_on rows ld rd).answer ≡ true
   link_asked p hr q =
       let f = link_partners rows ld rd p q in
-      ap (λ (o : Out). is_done o.answer) (sym (on_link rows ld rd (nr false rows ld rd p s nl hl hr f q.free)))
+      ap (λ (o : Out). is_ok o.answer) (sym (on_link rows ld rd (nr false rows ld rd p s nl hl hr f q.free)))
       ∙ asked false rows ld rd p s nl hl hr f q.free 0
 
-  pub unlink_asked : rd ≡ beta rows 3 ld → rd ≢ 0 → Unlinkable rows ld → is_done (three_unlink_on rows ld).answer ≡ true
+  pub unlink_asked : rd ≡ beta rows 3 ld → rd ≢ 0 → Unlinkable rows ld → is_ok (three_unlink_on rows ld).answer ≡ true
   unlink_asked e nr' q =
       let hr : rd < darts rows = rw e (s.below 3 ld) in
-      ap (λ (o : Out). is_done o.answer) (sym (on_unlink rows ld rd s e nr'))
+      ap (λ (o : Out). is_ok o.answer) (sym (on_unlink rows ld rd s e nr'))
       ∙ asked true rows ld rd (λ d. beta rows 3 d) s nl hl hr (unlink_partners rows ld rd s e q)
       (λ d c. (refl, s.back 3 d (omega arith) (q.real d c))) rd

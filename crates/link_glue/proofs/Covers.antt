@@ -79,7 +79,7 @@ both_ways false was last e q = q
 
 -- the closed face
 module _ (parting : Bool) (rows : List ℕ) (ld rd : ℕ) (s : WellFormed rows) (nl : ld ≢ 0) (m : ℕ) (w : LegOut)
-    (v : Trace parting rows 1 0 ld rows ld rd (suc m) w) (z : w.leg.l ≡ ld) where
+    (v : Trace parting rows 1 0 ld rows ld rd (suc m) w) (z : w.leg.pair.l ≡ ld) where
   abbrev L : ℕ → ℕ
   L t = far rows 1 t ld
 

@@ -13,7 +13,7 @@ use mathlib.Core.List.{List}
 use mathlib.Core.Bool.{Bool, true, false, cond}
 use lib.ListN.{length}
 use Rattle.map_betas.specs.Betas.{beta, darts}
-use Rattle.map_betas.specs.Answers.{Out, is_done}
+use Rattle.map_betas.specs.Answers.{Out}
 use Rattle.map_betas.specs.Maps.{WellFormed}
 use Rattle.link_walk.specs.Walk.{step_of, LegOut, walk}
 use Rattle.link_walk.specs.Three.{leg_on, leg_back, three_link_on, three_unlink_on}
@@ -24,6 +24,7 @@ use Rattle.link_glue.proofs.Trace.{Trace, trace_on, traced}
 use Rattle.link_glue.proofs.Success.{Success, closed, opened, link_success, unlink_success}
 use Rattle.link_glue.proofs.Covers.{Cover, cover_closed, matching, linked, unlinkable, unlinked}
 use Rattle.link_glue.proofs.OpenCover.{cover_open}
+use Rattle.std.specs.Prelude.{is_ok}
 
 pub record Leaves (rows rows' : List ℕ) : Type 0 where
   pub formed : WellFormed rows'
@@ -45,7 +46,7 @@ module _ (parting : Bool) (entry : List ℕ) (ld rd : ℕ) (s : WellFormed entry
           low = λ b d hb. g.alike b d hb ∙ changed_low parting entry ld rd rows₁ s h hl hr nl b d hb;
         }
 
-    pub trace₁ : is_done w.leg.answer ≡ true → (m : ℕ) × Trace parting entry 1 0 ld entry ld rd (suc m) w
+    pub trace₁ : is_ok w.leg.answer ≡ true → (m : ℕ) × Trace parting entry 1 0 ld entry ld rd (suc m) w
     trace₁ t =
         let low = changed_low parting entry ld rd rows₁ s h hl hr nl in
         let s₁ = changed_formed parting entry ld rd rows₁ s h hl hr nl in
@@ -70,7 +71,7 @@ module _ (parting : Bool) (entry : List ℕ) (ld rd : ℕ) (s : WellFormed entry
           (f.below 0 ld) (f.below 1 rd)) in
           record { formed = g.formed; long = g.long ∙ a.long; low = λ b d hb. g.alike b d hb ∙ a.low b d hb }
 
-      pub trace₂ : is_done u.leg.answer ≡ true → (k : ℕ) × Trace parting entry 0 1 0 w.rows (beta entry 0 ld) (beta entry 1 rd) k u
+      pub trace₂ : is_ok u.leg.answer ≡ true → (k : ℕ) × Trace parting entry 0 1 0 w.rows (beta entry 0 ld) (beta entry 1 rd) k u
       trace₂ t =
           let a = leaves₁ in
           let low = a.low in
@@ -88,7 +89,7 @@ module _ (parting : Bool) (entry : List ℕ) (ld rd : ℕ) (s : WellFormed entry
       (o : Out) → Success parting d entry ld rd o → P o.rows
   found d P k o (closed rows₁ h w e t z q) =
       let v = trace₁ rows₁ h w e t in
-      let y : w.leg.l ≡ ld = ⊎_elim (λ a. absurd (z a)) (λ a. a) v.1.ended in
+      let y : w.leg.pair.l ≡ ld = ⊎_elim (λ a. absurd (z a)) (λ a. a) v.1.ended in
       rw q (k w.rows (cover_closed parting entry ld rd s nl v.0 w v.1 y) (leaves₁ rows₁ h w e))
   found d P k o (opened rows₁ h w e t zl zr u e₂ t₂ q) =
       let v = trace₁ rows₁ h w e t in
@@ -96,7 +97,7 @@ module _ (parting : Bool) (entry : List ℕ) (ld rd : ℕ) (s : WellFormed entry
       rw q (k u.rows (cover_open parting entry ld rd s nl v.0 w v.1 zl zr x.0 u x.1) (leaves₂ rows₁ h w e u e₂))
 
 module _ (rows : List ℕ) (ld rd : ℕ) (s : WellFormed rows) (hl : ld < darts rows) (nl : ld ≢ 0) where
-  pub link_found : rd < darts rows → rd ≢ 0 → is_done (three_link_on rows ld rd).answer ≡ true →
+  pub link_found : rd < darts rows → rd ≢ 0 → is_ok (three_link_on rows ld rd).answer ≡ true →
       Matching rows ld rd (λ d. beta (three_link_on rows ld rd).rows 3 d)
       × Linked rows ld (λ d. beta (three_link_on rows ld rd).rows 3 d) (three_link_on rows ld rd).rows
   link_found hr nr t =
@@ -104,7 +105,7 @@ module _ (rows : List ℕ) (ld rd : ℕ) (s : WellFormed rows) (hl : ld < darts 
       (λ last c a. (matching rows ld rd last c a.formed a.long, linked rows ld rd last c a.low a.long))
       (three_link_on rows ld rd) (link_success rows ld rd s nl nr t)
 
-  pub unlink_found : rd ≡ beta rows 3 ld → rd ≢ 0 → is_done (three_unlink_on rows ld).answer ≡ true →
+  pub unlink_found : rd ≡ beta rows 3 ld → rd ≢ 0 → is_ok (three_unlink_on rows ld).answer ≡ true →
       Unlinkable rows ld × Unlinked rows ld (three_unlink_on rows ld).rows
   unlink_found e nr t =
       let hr : rd < darts rows = rw e (s.below 3 ld) in

@@ -8,7 +8,6 @@ use mathlib.Core.Logic.{◌≢◌, by_cases}
 use mathlib.Core.List.{List}
 use mathlib.Core.Bool.{Bool, true, cond}
 use Rattle.map_betas.specs.Betas.{beta, darts}
-use Rattle.map_betas.specs.Answers.{is_done}
 use Rattle.map_betas.specs.Maps.{WellFormed}
 use Rattle.map_betas.proofs.Stores.{paired, pair_others}
 use Rattle.map_betas.specs.Chains.{far}
@@ -16,6 +15,7 @@ use Rattle.map_betas.proofs.Chains.{Run}
 use Rattle.link_walk.specs.Walk.{step_of, LegOut, walk}
 use Rattle.link_walk.proofs.StepLaws.{Changed, changeable, changed_formed, changed_low, changed_fewer}
 use Rattle.link_glue.proofs.Turns.{said, said_done, step_again, onto, at_null, at_stop}
+use Rattle.std.specs.Prelude.{is_ok}
 
 module _ (parting : Bool) (base : List ℕ) (i j stop : ℕ) where
   -- the pairs ahead of l and r, as far as the left side runs
@@ -76,21 +76,21 @@ module _ (parting : Bool) (base : List ℕ) (i j stop : ℕ) where
     Finishes f =
         (rows : List ℕ) (l r k : ℕ) → WellFormed rows → l < darts rows → r < darts rows → ((b d : ℕ) → b < 3 → beta rows b d ≡ beta base b d) →
         changeable parting rows < f → Fresh rows l r →
-        is_done (walk (step_of parting ld rd) f rows i j stop l r k).leg.answer ≡ true
+        is_ok (walk (step_of parting ld rd) f rows i j stop l r k).leg.answer ≡ true
 
     finish_on : (f : ℕ) → Finishes f → Finishes (suc f)
     finish_on f ih rows l r k s hl hr same z c =
         by_cases (ℕ_discrete l 0)
-        (λ (e : l ≡ 0). ap (λ (w : LegOut). is_done w.leg.answer) (at_null i j stop (step_of parting ld rd) f rows l r k e))
+        (λ (e : l ≡ 0). ap (λ (w : LegOut). is_ok w.leg.answer) (at_null i j stop (step_of parting ld rd) f rows l r k e))
         (λ (nl : l ≢ 0). by_cases (ℕ_discrete l stop)
-        (λ (e : l ≡ stop). ap (λ (w : LegOut). is_done w.leg.answer) (at_stop i j stop (step_of parting ld rd) f rows l r k e))
+        (λ (e : l ≡ stop). ap (λ (w : LegOut). is_ok w.leg.answer) (at_stop i j stop (step_of parting ld rd) f rows l r k e))
         (λ (ns : l ≢ stop).
         let rows' : List ℕ = paired parting rows 3 l r in
         let h : Changed parting rows l r rows' = first_pair rows l r c nl ns in
         let same' : (b d : ℕ) → b < 3 → beta rows' b d ≡ beta base b d = λ b d hb. changed_low parting rows l r rows' s h hl hr nl b d hb ∙ same b d hb in
         let s' : WellFormed rows' = changed_formed parting rows l r rows' s h hl hr nl in
         let fell : changeable parting rows' < changeable parting rows = changed_fewer parting rows l r rows' s h hl hr nl in
-        ap (λ (w : LegOut). is_done w.leg.answer)
+        ap (λ (w : LegOut). is_ok w.leg.answer)
         (onto i j stop (step_of parting ld rd) f rows l r k nl ns (said parting r) rows' (step_again parting ld rd rows l r rows' h) (said_done parting r))
         ∙ rw (same' i l hi, same' j r hj)
         (ih rows' (beta base i l) (beta base j r) (suc k) s' (rw (← same' i l hi) (s'.below i l)) (rw (← same' j r hj) (s'.below j r)) same' (omega arith)

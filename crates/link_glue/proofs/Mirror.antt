@@ -12,9 +12,8 @@ use mathlib.Core.List.{List}
 use mathlib.Core.Bool.{true, false}
 use lib.ListN.{set}
 use lib.Seq.{set_comm, get_or-set_other}
-use Rattle.map_betas.specs.declared.error.Answer.TheVariants.{Done}
 use Rattle.map_betas.specs.Betas.{place, beta}
-use Rattle.map_betas.specs.Answers.{out, pass, is_done}
+use Rattle.map_betas.specs.Answers.{out, nothing, done}
 use Rattle.map_betas.proofs.Stores.{pair_others, pair_l, pair_r, pair_back}
 use Rattle.map_betas.proofs.CoreLaws.{unlink_done}
 use Rattle.link_walk.specs.Walk.{step_of, LegOut, leg_out, leg_at, walk}
@@ -22,11 +21,12 @@ use Rattle.link_walk.specs.Undo.{Inside}
 use Rattle.link_walk.proofs.Stores.{beta_set}
 use Rattle.link_walk.proofs.StepLaws.{Changed, link_step_done, step_unlink}
 use Rattle.link_glue.proofs.Turns.{step_again, onto, Turn, ends, goes, turn_of_lem, done_of}
+use Rattle.std.specs.Prelude.{is_ok}
 
 -- a step of an unlink, from what holds of the pair
 
 module _ (ld rd : ℕ) (rows : List ℕ) (l r : ℕ) where
-  pub unlink_again : beta rows 3 l ≡ r → beta rows 3 r ≡ l → r ≢ 0 → out (Done r 0) (set (set rows (place 3 l) 0) (place 3 r) 0) ≡ step_of true ld rd rows l r
+  pub unlink_again : beta rows 3 l ≡ r → beta rows 3 r ≡ l → r ≢ 0 → out (done r 0) (set (set rows (place 3 l) 0) (place 3 r) 0) ≡ step_of true ld rd rows l r
   unlink_again el er n =
       unlink_done rows 3 l 3 r (set rows (place 3 l) 0) (set (set rows (place 3 l) 0) (place 3 r) 0) refl (sym el) n refl refl
       ∙ step_unlink ld rd rows l r (sym er)
@@ -67,12 +67,13 @@ module _ (ld rd i j stop : ℕ) (hi : i < 3) (hj : j < 3) where
 
   -- the other images stay
   abbrev Alike : ℕ → Type 0
-  Alike f = (rows : List ℕ) (l r k : ℕ) (w : LegOut) → links f rows l r k ≡ w → is_done w.leg.answer ≡ true → (b d : ℕ) → b < 3 →
+  Alike f = (rows : List ℕ) (l r k : ℕ) (w : LegOut) → links f rows l r k ≡ w → is_ok w.leg.answer ≡ true → (b d : ℕ) → b < 3 →
       beta w.rows b d ≡ beta rows b d
 
   alike_on : (f : ℕ) → Alike f → Alike (suc f)
   alike_on f ih rows l r k w e t b d hb =
-      go (turn_of_lem false ld rd i j stop f rows l r k (λ nl d. link_step_done rows _ _ ld rd l r refl d) (done_of false ld rd i j stop (suc f) rows l r k w e t))
+      go (turn_of_lem false ld rd i j stop f rows l r k (λ nl d. link_step_done rows _ _ ld rd l r refl d)
+      (done_of false ld rd i j stop (suc f) rows l r k w e t))
     where
       go : Turn false ld rd i j stop f rows l r k → beta w.rows b d ≡ beta rows b d
       go (ends z q) = ap (λ (x : LegOut). beta x.rows b d) (sym e ∙ q (step_of false ld rd) rows)
@@ -93,24 +94,25 @@ module _ (ld rd i j stop : ℕ) (hi : i < 3) (hj : j < 3) where
   -- the same walk without the image of a dart that was linked before, which it keeps
   abbrev Less : ℕ → Type 0
   Less f =
-      (rows : List ℕ) (l r k : ℕ) (w : LegOut) (a : ℕ) → links f rows l r k ≡ w → is_done w.leg.answer ≡ true → beta rows 3 a ≢ 0 →
+      (rows : List ℕ) (l r k : ℕ) (w : LegOut) (a : ℕ) → links f rows l r k ≡ w → is_ok w.leg.answer ≡ true → beta rows 3 a ≢ 0 →
       (links f (set rows (place 3 a) 0) l r k ≡ leg_out w.leg (set w.rows (place 3 a) 0)) × (beta w.rows 3 a ≡ beta rows 3 a)
 
   less_on : (f : ℕ) → Less f → Less (suc f)
   less_on f ih rows l r k w a e t n =
-      go (turn_of_lem false ld rd i j stop f rows l r k (λ nl d. link_step_done rows _ _ ld rd l r refl d) (done_of false ld rd i j stop (suc f) rows l r k w e t))
+      go (turn_of_lem false ld rd i j stop f rows l r k (λ nl d. link_step_done rows _ _ ld rd l r refl d)
+      (done_of false ld rd i j stop (suc f) rows l r k w e t))
     where
       go : Turn false ld rd i j stop f rows l r k →
           (links (suc f) (set rows (place 3 a) 0) l r k ≡ leg_out w.leg (set w.rows (place 3 a) 0)) × (beta w.rows 3 a ≡ beta rows 3 a)
       go (ends z q) =
-          let p : w ≡ leg_out (leg_at pass l r k) rows = sym e ∙ q (step_of false ld rd) rows in (
+          let p : w ≡ leg_out (leg_at nothing l r k) rows = sym e ∙ q (step_of false ld rd) rows in (
             q (step_of false ld rd) (set rows (place 3 a) 0) ∙ ap (λ (x : LegOut). leg_out x.leg (set x.rows (place 3 a) 0)) (sym p),
             ap (λ (x : LegOut). beta x.rows 3 a) p,
           )
       go (goes nl ns rows' h q) =
           let kept = kept_image rows l r rows' h a n in
           let v = ih rows' (beta rows' i l) (beta rows' j r) (suc k) w a (sym q ∙ e) t (λ z. n (sym kept ∙ z)) in (
-            onto i j stop (step_of false ld rd) f (set rows (place 3 a) 0) l r k nl ns pass (set rows' (place 3 a) 0)
+            onto i j stop (step_of false ld rd) f (set rows (place 3 a) 0) l r k nl ns nothing (set rows' (place 3 a) 0)
                 (step_again false ld rd (set rows (place 3 a) 0) l r (set rows' (place 3 a) 0) (less rows l r rows' h a n)) refl
                 ∙ rw (beta_set rows' i l a 0 hi, beta_set rows' j r a 0 hj) v.0,
             v.1 ∙ kept,
@@ -126,7 +128,7 @@ module _ (ld rd i j stop : ℕ) (hi : i < 3) (hj : j < 3) where
   fewer (suc f) = less_on f (fewer f)
 
   -- and without a pair
-  pub without : (f : ℕ) (rows : List ℕ) (l r k : ℕ) (w : LegOut) (a b : ℕ) → links f rows l r k ≡ w → is_done w.leg.answer ≡ true → a ≢ b →
+  pub without : (f : ℕ) (rows : List ℕ) (l r k : ℕ) (w : LegOut) (a b : ℕ) → links f rows l r k ≡ w → is_ok w.leg.answer ≡ true → a ≢ b →
       beta rows 3 a ≢ 0 → beta rows 3 b ≢ 0 →
       links f (set (set rows (place 3 a) 0) (place 3 b) 0) l r k ≡ leg_out w.leg (set (set w.rows (place 3 a) 0) (place 3 b) 0)
   without f rows l r k w a b e t n na nb =
@@ -142,7 +144,7 @@ module _ (n ld rd i j stop i₂ j₂ stop₂ f₂ l₂ r₂ k₂ : ℕ) (hi : i 
   abbrev Back : ℕ → Type 0
   Back f =
       (rows : List ℕ) (l r k : ℕ) (w v : LegOut) → Inside n rows → l < n → r < n →
-      walk (step_of false ld rd) f rows i j stop l r k ≡ w → is_done w.leg.answer ≡ true → second w.rows ≡ v → is_done v.leg.answer ≡ true →
+      walk (step_of false ld rd) f rows i j stop l r k ≡ w → is_ok w.leg.answer ≡ true → second w.rows ≡ v → is_ok v.leg.answer ≡ true →
       (xs : List ℕ) × (second rows ≡ leg_out v.leg xs) × (walk (step_of true ld rd) f v.rows i j stop l r k ≡ leg_out w.leg xs)
 
   -- a pair that was linked before both legs
@@ -157,8 +159,8 @@ module _ (n ld rd i j stop i₂ j₂ stop₂ f₂ l₂ r₂ k₂ : ℕ) (hi : i 
 
   pub back_pair : (f : ℕ) → Back f → (rows : List ℕ) (l r k : ℕ) (w v : LegOut) → Inside n rows → l < n → r < n → l ≢ 0 → (rows' : List ℕ) →
       Changed false rows l r rows' →
-      walk (step_of false ld rd) f rows' i j stop (beta rows' i l) (beta rows' j r) k ≡ w → is_done w.leg.answer ≡ true → second w.rows ≡ v →
-      is_done v.leg.answer ≡ true →
+      walk (step_of false ld rd) f rows' i j stop (beta rows' i l) (beta rows' j r) k ≡ w → is_ok w.leg.answer ≡ true → second w.rows ≡ v →
+      is_ok v.leg.answer ≡ true →
       Pair f rows l r k rows' w v
   back_pair f ih rows l r k w v s hl hr nl rows' h e t e₂ t₂ =
       let ap' : l ≢ r = h.apart (omega arith) in
@@ -191,26 +193,27 @@ module _ (n ld rd i j stop i₂ j₂ stop₂ f₂ l₂ r₂ k₂ : ℕ) (hi : i 
 
   back_goes : (f : ℕ) → Back f → (rows : List ℕ) (l r k : ℕ) (w v : LegOut) → Inside n rows → l < n → r < n → l ≢ 0 → l ≢ stop → (rows' : List ℕ) →
       Changed false rows l r rows' →
-      walk (step_of false ld rd) f rows' i j stop (beta rows' i l) (beta rows' j r) (suc k) ≡ w → is_done w.leg.answer ≡ true → second w.rows ≡ v →
-      is_done v.leg.answer ≡ true →
+      walk (step_of false ld rd) f rows' i j stop (beta rows' i l) (beta rows' j r) (suc k) ≡ w → is_ok w.leg.answer ≡ true → second w.rows ≡ v →
+      is_ok v.leg.answer ≡ true →
       (xs : List ℕ) × (second rows ≡ leg_out v.leg xs) × (walk (step_of true ld rd) (suc f) v.rows i j stop l r k ≡ leg_out w.leg xs)
   back_goes f ih rows l r k w v s hl hr nl ns rows' h e t e₂ t₂ =
       let p : Pair f rows l r (suc k) rows' w v = back_pair f ih rows l r (suc k) w v s hl hr nl rows' h e t e₂ t₂ in (
         p.left,
         p.linked,
-        onto i j stop (step_of true ld rd) f v.rows l r k nl ns (Done r 0) (set (set v.rows (place 3 l) 0) (place 3 r) 0)
+        onto i j stop (step_of true ld rd) f v.rows l r k nl ns (done r 0) (set (set v.rows (place 3 l) 0) (place 3 r) 0)
             (unlink_again ld rd v.rows l r p.last_l p.last_r h.real) refl
             ∙ rw (p.low i l hi, p.low j r hj) p.unlinked,
       )
 
   back_on : (f : ℕ) → Back f → Back (suc f)
   back_on f ih rows l r k w v s hl hr e t e₂ t₂ =
-      go (turn_of_lem false ld rd i j stop f rows l r k (λ nl d. link_step_done rows _ _ ld rd l r refl d) (done_of false ld rd i j stop (suc f) rows l r k w e t))
+      go (turn_of_lem false ld rd i j stop f rows l r k (λ nl d. link_step_done rows _ _ ld rd l r refl d)
+      (done_of false ld rd i j stop (suc f) rows l r k w e t))
     where
       go : Turn false ld rd i j stop f rows l r k →
           (xs : List ℕ) × (second rows ≡ leg_out v.leg xs) × (walk (step_of true ld rd) (suc f) v.rows i j stop l r k ≡ leg_out w.leg xs)
       go (ends z q) =
-          let p : w ≡ leg_out (leg_at pass l r k) rows = sym e ∙ q (step_of false ld rd) rows in (
+          let p : w ≡ leg_out (leg_at nothing l r k) rows = sym e ∙ q (step_of false ld rd) rows in (
             v.rows,
             ap (λ (x : LegOut). second x.rows) (sym p) ∙ e₂,
             q (step_of true ld rd) v.rows

@@ -17,7 +17,7 @@ use Rattle.link_glue.proofs.Covers.{Cover, Table, table, both_ways}
 
 -- w after the first leg, u after the second
 module _ (parting : Bool) (rows : List ℕ) (ld rd : ℕ) (s : WellFormed rows) (nl : ld ≢ 0) (m : ℕ) (w : LegOut)
-    (v : Trace parting rows 1 0 ld rows ld rd (suc m) w) (zl : w.leg.l ≡ 0) (zr : w.leg.r ≡ 0)
+    (v : Trace parting rows 1 0 ld rows ld rd (suc m) w) (zl : w.leg.pair.l ≡ 0) (zr : w.leg.pair.r ≡ 0)
     (k : ℕ) (u : LegOut) (x₂ : Trace parting rows 0 1 0 w.rows (beta rows 0 ld) (beta rows 1 rd) k u) where
   abbrev F : ℕ → ℕ
   F t = far rows 1 t ld

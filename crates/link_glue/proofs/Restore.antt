@@ -8,9 +8,8 @@ use mathlib.Core.List.{List}
 use mathlib.Core.Bool.{Bool, true, false}
 use lib.ListN.{length, set, length-set}
 use borrow.Author.Tests.{eq-eqb, ne_eqb}
-use Rattle.map_betas.specs.declared.error.Answer.TheVariants.{Done}
 use Rattle.map_betas.specs.Betas.{place, beta, darts}
-use Rattle.map_betas.specs.Answers.{Out, out, pass, is_done}
+use Rattle.map_betas.specs.Answers.{Out, out, nothing, done}
 use Rattle.map_betas.specs.Maps.{WellFormed}
 use Rattle.link_walk.specs.Walk.{step_of, LegOut, leg_out, leg_at, walk}
 use Rattle.link_walk.specs.Three.{leg_on, leg_back, last_leg, after_leg, after_core, three_link_on, three_unlink_on}
@@ -19,6 +18,7 @@ use Rattle.link_walk.proofs.UndoLaws.{Walked, walked}
 use Rattle.link_walk.proofs.ThreeLaws.{on_unlink}
 use Rattle.link_glue.proofs.Mirror.{Pair, back_pair, back_all, unlink_again}
 use Rattle.link_glue.proofs.Success.{Success, closed, opened, link_success}
+use Rattle.std.specs.Prelude.{is_ok}
 
 -- the unlink after a link
 
@@ -31,13 +31,14 @@ unlink_starts rows ld rd s el er n =
 module _ (entry : List ℕ) (ld rd : ℕ) (s : WellFormed entry) (hl : ld < darts entry) (nl : ld ≢ 0) (hr : rd < darts entry) (nr : rd ≢ 0) where
   -- a leg's length and start depend on nothing that a link changes
   same_leg : (parting : Bool) (i j stop : ℕ) (xs ys : List ℕ) → i < 3 → j < 3 → length xs ≡ length ys → ((b d : ℕ) → b < 3 → beta xs b d ≡ beta ys b d) →
-      (zs : List ℕ) → walk (step_of parting ld rd) (suc (length xs)) zs i j stop (beta xs i ld) (beta xs j rd) 0 ≡ walk (step_of parting ld rd) (suc (length ys))
+      (zs : List ℕ) → walk (step_of parting ld rd) (suc (length xs)) zs i j stop (beta xs i ld) (beta xs j rd) 0
+      ≡ walk (step_of parting ld rd) (suc (length ys))
       zs i j stop (beta ys i ld) (beta ys j rd) 0
   same_leg parting i j stop xs ys hi hj e same zs = rw (e, same i ld hi, same j rd hj)
 
-  restore_closed : (rows₁ : List ℕ) → Changed false entry ld rd rows₁ → (w : LegOut) → leg_on false rows₁ ld rd ≡ w → is_done w.leg.answer ≡ true →
-      w.leg.l ≢ 0 →
-      WellFormed w.rows × (length w.rows ≡ length entry) × (three_unlink_on w.rows ld ≡ out (Done rd 0) entry)
+  restore_closed : (rows₁ : List ℕ) → Changed false entry ld rd rows₁ → (w : LegOut) → leg_on false rows₁ ld rd ≡ w → is_ok w.leg.answer ≡ true →
+      w.leg.pair.l ≢ 0 →
+      WellFormed w.rows × (length w.rows ≡ length entry) × (three_unlink_on w.rows ld ≡ out (done rd 0) entry)
   unfolding walk
   restore_closed rows₁ h w e t z =
       let s₁ = changed_formed false entry ld rd rows₁ s h hl hr nl in
@@ -45,10 +46,10 @@ module _ (entry : List ℕ) (ld rd : ℕ) (s : WellFormed entry) (hl : ld < dart
       rw (sym e) (walked false ld rd 1 0 ld (omega arith) (omega arith) (suc (length rows₁)) rows₁ (beta rows₁ 1 ld) (beta rows₁ 0 rd) 0 s₁ (s₁.below 1 ld)
       (s₁.below 0 rd)) in
       let p : Pair (darts entry) ld rd 1 0 ld 0 1 0 0 0 0 0 (omega arith) (omega arith) (omega arith) (omega arith) (suc (length rows₁)) entry ld rd 0 rows₁ w
-      (leg_out (leg_at pass 0 0 0) w.rows) =
+      (leg_out (leg_at nothing 0 0 0) w.rows) =
       back_pair (darts entry) ld rd 1 0 ld 0 1 0 0 0 0 0 (omega arith) (omega arith) (omega arith) (omega arith) (suc (length rows₁))
       (back_all (darts entry) ld rd 1 0 ld 0 1 0 0 0 0 0 (omega arith) (omega arith) (omega arith) (omega arith) (suc (length rows₁)))
-      entry ld rd 0 w (leg_out (leg_at pass 0 0 0) w.rows) (formed_inside entry s) hl hr nl rows₁ h e t refl refl in
+      entry ld rd 0 w (leg_out (leg_at nothing 0 0 0) w.rows) (formed_inside entry s) hl hr nl rows₁ h e t refl refl in
       let ys : List ℕ = set (set w.rows (place 3 ld) 0) (place 3 rd) 0 in
       let len : length ys ≡ length rows₁ = simp length-set g.long in
       let leg : leg_on true ys ld rd ≡ leg_out w.leg p.left = same_leg true 1 0 ld ys rows₁ (omega arith) (omega arith) len p.low ys ∙ p.unlinked in
@@ -57,13 +58,13 @@ module _ (entry : List ℕ) (ld rd : ℕ) (s : WellFormed entry) (hl : ld < dart
         g.long ∙ changed_length false entry ld rd rows₁ s h hl hr nl,
         sym (unlink_starts w.rows ld rd g.formed p.last_l p.last_r nr)
             ∙ ap (λ (x : LegOut). after_leg true rd w.rows ld rd x) leg
-            ∙ simp (t, ne_eqb w.leg.l 0 z, is),
+            ∙ simp (t, ne_eqb w.leg.pair.l 0 z, is),
       )
 
-  restore_opened : (rows₁ : List ℕ) → Changed false entry ld rd rows₁ → (w : LegOut) → leg_on false rows₁ ld rd ≡ w → is_done w.leg.answer ≡ true →
-      w.leg.l ≡ 0 → w.leg.r ≡ 0 →
-      (v : LegOut) → leg_back false w.rows ld rd ≡ v → is_done v.leg.answer ≡ true →
-      WellFormed v.rows × (length v.rows ≡ length entry) × (three_unlink_on v.rows ld ≡ out (Done rd 0) entry)
+  restore_opened : (rows₁ : List ℕ) → Changed false entry ld rd rows₁ → (w : LegOut) → leg_on false rows₁ ld rd ≡ w → is_ok w.leg.answer ≡ true →
+      w.leg.pair.l ≡ 0 → w.leg.pair.r ≡ 0 →
+      (v : LegOut) → leg_back false w.rows ld rd ≡ v → is_ok v.leg.answer ≡ true →
+      WellFormed v.rows × (length v.rows ≡ length entry) × (three_unlink_on v.rows ld ≡ out (done rd 0) entry)
   unfolding walk
   restore_opened rows₁ h w e t z y v e₂ t₂ =
       let s₁ = changed_formed false entry ld rd rows₁ s h hl hr nl in
@@ -92,7 +93,7 @@ module _ (entry : List ℕ) (ld rd : ℕ) (s : WellFormed entry) (hl : ld < dart
       let at₂ : beta w.rows 0 ld < darts entry = rw (to₂ 0 ld (omega arith)) (s.below 0 ld) in
       let at₃ : beta w.rows 1 rd < darts entry = rw (to₂ 1 rd (omega arith)) (s.below 1 rd) in
       let q = back_all (darts entry) ld rd 0 1 0 0 1 0 0 0 0 0 (omega arith) (omega arith) (omega arith) (omega arith) f₂
-      entry l₂ r₂ 0 (leg_out v.leg p.left) (leg_out (leg_at pass 0 0 0) p.left) (formed_inside entry s) at₂ at₃ p.linked t₂ refl refl in
+      entry l₂ r₂ 0 (leg_out v.leg p.left) (leg_out (leg_at nothing 0 0 0) p.left) (formed_inside entry s) at₂ at₃ p.linked t₂ refl refl in
       let is : q.0 ≡ entry = ap (λ (x : LegOut). x.rows) (sym q.1) in
       let g₃ : Walked false entry 0 1 l₂ r₂ 0 (leg_out v.leg p.left) =
       rw (sym p.linked) (walked false ld rd 0 1 0 (omega arith) (omega arith) f₂ entry l₂ r₂ 0 s at₂ at₃) in
@@ -105,17 +106,17 @@ module _ (entry : List ℕ) (ld rd : ℕ) (s : WellFormed entry) (hl : ld < dart
         g₂.long ∙ g.long ∙ long₁,
         sym (unlink_starts v.rows ld rd g₂.formed p.last_l p.last_r nr)
             ∙ ap (λ (x : LegOut). after_leg true rd v.rows ld rd x) leg
-            ∙ simp (t, eq-eqb w.leg.l 0 z, eq-eqb w.leg.r 0 y)
+            ∙ simp (t, eq-eqb w.leg.pair.l 0 z, eq-eqb w.leg.pair.r 0 y)
             (ap (λ (x : LegOut). last_leg rd v.rows x) leg₂ ∙ simp t₂),
       )
 
   -- a 3-link that succeeds leaves a map, of which a 3-unlink of ld answers rd and leaves the rows as they were
-  pub restored : is_done (three_link_on entry ld rd).answer ≡ true →
+  pub restored : is_ok (three_link_on entry ld rd).answer ≡ true →
       WellFormed (three_link_on entry ld rd).rows × (length (three_link_on entry ld rd).rows ≡ length entry) ×
-      (three_unlink_on (three_link_on entry ld rd).rows ld ≡ out (Done rd 0) entry)
+      (three_unlink_on (three_link_on entry ld rd).rows ld ≡ out (done rd 0) entry)
   restored t = go (three_link_on entry ld rd) (link_success entry ld rd s nl nr t)
     where
       go : (o : Out) → Success false 0 entry ld rd o →
-          WellFormed o.rows × (length o.rows ≡ length entry) × (three_unlink_on o.rows ld ≡ out (Done rd 0) entry)
+          WellFormed o.rows × (length o.rows ≡ length entry) × (three_unlink_on o.rows ld ≡ out (done rd 0) entry)
       go o (closed rows₁ h w e d z q) = rw q (restore_closed rows₁ h w e d z)
       go o (opened rows₁ h w e d z y v e₂ d₂ q) = rw q (restore_opened rows₁ h w e d z y v e₂ d₂)

@@ -10,12 +10,13 @@ use mathlib.Core.Logic.{◌≢◌, ◌⊎◌}
 use mathlib.Core.List.{List}
 use mathlib.Core.Bool.{Bool, true, false, cond}
 use Rattle.map_betas.specs.Betas.{beta, darts}
-use Rattle.map_betas.specs.Answers.{pass, is_done}
+use Rattle.map_betas.specs.Answers.{nothing}
 use Rattle.map_betas.specs.Maps.{WellFormed}
 use Rattle.map_betas.specs.Chains.{far}
 use Rattle.link_walk.specs.Walk.{step_of, LegOut, leg_out, leg_at, walk}
 use Rattle.link_walk.proofs.StepLaws.{Changed, step_done, changeable, changed_formed, changed_low, changed_l, changed_r, changed_far, changed_fewer}
 use Rattle.link_glue.proofs.Turns.{Turn, ends, goes, turn_of_lem, done_of}
+use Rattle.std.specs.Prelude.{is_ok}
 
 -- no dart is both one that is still to change and one that has changed
 pub clash : (parting : Bool) (x y : ℕ) → cond parting x 0 ≡ cond parting 0 y → x ≢ 0 → y ≢ 0 → ⊥
@@ -26,9 +27,9 @@ clash false x y e nx ny = ny (sym e)
 pub record Trace (parting : Bool) (base : List ℕ) (i j stop : ℕ) (rows : List ℕ) (l r m : ℕ) (w : LegOut) : Type 0 where
   pub real_l : (t : ℕ) → t < m → far base i t l ≢ 0
   pub real_r : (t : ℕ) → t < m → far base j t r ≢ 0
-  pub end_l : w.leg.l ≡ far base i m l
-  pub end_r : w.leg.r ≡ far base j m r
-  pub ended : (w.leg.l ≡ 0) ⊎ (w.leg.l ≡ stop)
+  pub end_l : w.leg.pair.l ≡ far base i m l
+  pub end_r : w.leg.pair.r ≡ far base j m r
+  pub ended : (w.leg.pair.l ≡ 0) ⊎ (w.leg.pair.l ≡ stop)
   pub few : m ≤ changeable parting rows
   pub was_l : (t : ℕ) → t < m → beta rows 3 (far base i t l) ≡ cond parting (far base j t r) 0
   pub was_r : (t : ℕ) → t < m → beta rows 3 (far base j t r) ≡ cond parting (far base i t l) 0
@@ -114,10 +115,10 @@ module _ (parting : Bool) (base : List ℕ) (ld rd i j stop : ℕ) (hi : i < 3) 
   abbrev Traced : ℕ → Type 0
   Traced f =
       (rows : List ℕ) (l r k : ℕ) (w : LegOut) → WellFormed rows → l < darts rows → r < darts rows → ((b d : ℕ) → b < 3 → beta rows b d ≡ beta base b d) →
-      walk (step_of parting ld rd) f rows i j stop l r k ≡ w → is_done w.leg.answer ≡ true → changeable parting rows < f →
+      walk (step_of parting ld rd) f rows i j stop l r k ≡ w → is_ok w.leg.answer ≡ true → changeable parting rows < f →
       (m : ℕ) × Trace parting base i j stop rows l r m w
 
-  none : (rows : List ℕ) (l r k : ℕ) → (l ≡ 0) ⊎ (l ≡ stop) → Trace parting base i j stop rows l r 0 (leg_out (leg_at pass l r k) rows)
+  none : (rows : List ℕ) (l r k : ℕ) → (l ≡ 0) ⊎ (l ≡ stop) → Trace parting base i j stop rows l r 0 (leg_out (leg_at nothing l r k) rows)
   unfolding far
   none rows l r k z =
       record {
@@ -139,7 +140,7 @@ module _ (parting : Bool) (base : List ℕ) (ld rd i j stop : ℕ) (hi : i < 3) 
   more : (f : ℕ) → Traced f → (rows : List ℕ) (l r k : ℕ) (w : LegOut) → WellFormed rows → l < darts rows → r < darts rows →
       ((b d : ℕ) → b < 3 → beta rows b d ≡ beta base b d) →
       l ≢ 0 → (rows' : List ℕ) → Changed parting rows l r rows' → walk (step_of parting ld rd) f rows' i j stop (beta rows' i l) (beta rows' j r) (suc k) ≡ w →
-      is_done w.leg.answer ≡ true → changeable parting rows < suc f → (m : ℕ) × Trace parting base i j stop rows l r m w
+      is_ok w.leg.answer ≡ true → changeable parting rows < suc f → (m : ℕ) × Trace parting base i j stop rows l r m w
   more f ih rows l r k w s hl hr same nl rows' h e t z =
       let same' : (b d : ℕ) → b < 3 → beta rows' b d ≡ beta base b d = λ b d hb. changed_low parting rows l r rows' s h hl hr nl b d hb ∙ same b d hb in
       let s' = changed_formed parting rows l r rows' s h hl hr nl in

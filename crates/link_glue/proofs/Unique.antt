@@ -7,7 +7,7 @@ use mathlib.Core.Logic.{◌≢◌, ⊎_elim}
 use mathlib.Core.List.{List}
 use mathlib.Core.Bool.{true, false}
 use Rattle.map_betas.specs.Betas.{beta, darts}
-use Rattle.map_betas.specs.Answers.{Out, is_done}
+use Rattle.map_betas.specs.Answers.{Out}
 use Rattle.map_betas.specs.Maps.{WellFormed}
 use Rattle.map_betas.specs.Chains.{far}
 use Rattle.map_betas.proofs.Chains.{far_zero}
@@ -20,6 +20,7 @@ use Rattle.link_glue.proofs.Covers.{Seen, seen, to}
 use Rattle.link_glue.proofs.OpenCover.{Front, Rear, met, to_front, to_rear}
 use Rattle.link_glue.proofs.Found.{trace₁, trace₂, link_found}
 use Rattle.link_glue.proofs.Asked.{Partners, nr, along, chain₂, link_partners, link_asked}
+use Rattle.std.specs.Prelude.{is_ok}
 
 module _ (rows : List ℕ) (ld rd : ℕ) (p : ℕ → ℕ) (s : WellFormed rows) (nl : ld ≢ 0) (hl : ld < darts rows)
     (hr : rd < darts rows) (q : Matching rows ld rd p) where
@@ -38,7 +39,7 @@ module _ (rows : List ℕ) (ld rd : ℕ) (p : ℕ → ℕ) (s : WellFormed rows)
   same : (o : Out) → Success false 0 rows ld rd o → (d : ℕ) → Chain rows ld d → beta o.rows 3 d ≡ p d
   same o (closed rows₁ h w e t z r) d c =
       let v = trace₁ false rows ld rd s hl nl hr rows₁ h w e t in
-      let y : w.leg.l ≡ ld = ⊎_elim (λ a. absurd (z a)) (λ a. a) v.1.ended in
+      let y : w.leg.pair.l ≡ ld = ⊎_elim (λ a. absurd (z a)) (λ a. a) v.1.ended in
       let x : Seen false rows ld rd s nl v.0 w v.1 y d = seen false rows ld rd s nl v.0 w v.1 y d c in
       ap (λ (a : Out). beta a.rows 3 d) r
       ∙ to false rows ld rd s nl v.0 w v.1 y d x
@@ -59,7 +60,7 @@ module _ (rows : List ℕ) (ld rd : ℕ) (p : ℕ → ℕ) (s : WellFormed rows)
       ∙ ap p (sym y.2))
       (met false rows ld rd s nl v.0 w v.1 zl zr x.0 u x.1 d c)
 
-  done : is_done (three_link_on rows ld rd).answer ≡ true
+  done : is_ok (three_link_on rows ld rd).answer ≡ true
   done = link_asked rows ld rd s nl hl p hr q
 
   pub partner_is : (d : ℕ) → Chain rows ld d → beta (three_link_on rows ld rd).rows 3 d ≡ p d

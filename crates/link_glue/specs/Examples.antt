@@ -5,11 +5,10 @@
 --   lines            the table: the lines of links, then the smallest inputs that tell the readings of the walk apart, then unused darts
 --   calls, sayings   its two columns
 -- A crate above this one joins its own lines with these by `++`, at an A that has its further loans too.
-use Rattle.std.specs.Prelude.{ℕ, List, [], ◌∷◌, ◌++◌, replicate}
-use Rattle.map_betas.specs.declared.error.Answer.TheVariants.{Refused}
+use Rattle.std.specs.Prelude.{ℕ, List, [], ◌∷◌, ◌++◌, replicate, Err}
 use Rattle.map_betas.specs.declared.error.Refusal.TheVariants.{NotAMap, BadDart, NonFreeBase, NonFreeImage, AsymmetricalFaces}
 use Rattle.map_betas.specs.Betas.{darts}
-use Rattle.map_betas.specs.Answers.{Outcome, outcome, pass}
+use Rattle.map_betas.specs.Answers.{Outcome, outcome, nothing}
 use Rattle.link_walk.specs.Calls.{three_link, three_unlink}
 
 -- a dart's images by beta 0, 1, 2 and 3
@@ -77,23 +76,23 @@ line c s = record { call = c; says = s }
 
 unfoldable pub lines : List (Line (Outcome (List ℕ)))
 lines =
-    line (link one 1 1) (outcome (Refused (NonFreeImage 3 1 1)) one)
-    ∷ line (link loops 1 4) (outcome pass loops_linked)
-    ∷ line (unlink loops_linked 4) (outcome (Refused (AsymmetricalFaces 4 1)) loops_linked)
-    ∷ line (link loops 4 1) (outcome (Refused (NonFreeImage 3 7 1)) loops)
-    ∷ line (link square 1 2) (outcome (Refused (NonFreeBase 3 2 1)) square)
-    ∷ line (link opens 1 4) (outcome pass opens_linked)
-    ∷ line (link opens 5 1) (outcome (Refused (AsymmetricalFaces 5 1)) opens)
+    line (link one 1 1) (outcome (Err (NonFreeImage 3 1 1)) one)
+    ∷ line (link loops 1 4) (outcome nothing loops_linked)
+    ∷ line (unlink loops_linked 4) (outcome (Err (AsymmetricalFaces 4 1)) loops_linked)
+    ∷ line (link loops 4 1) (outcome (Err (NonFreeImage 3 7 1)) loops)
+    ∷ line (link square 1 2) (outcome (Err (NonFreeBase 3 2 1)) square)
+    ∷ line (link opens 1 4) (outcome nothing opens_linked)
+    ∷ line (link opens 5 1) (outcome (Err (AsymmetricalFaces 5 1)) opens)
     -- walks read the rows as written so far
-    ∷ line (link pair 1 2) (outcome (Refused (NonFreeBase 3 2 1)) pair)
-    ∷ line (unlink pair_linked 1) (outcome (Refused (AsymmetricalFaces 1 2)) pair_linked)
+    ∷ line (link pair 1 2) (outcome (Err (NonFreeBase 3 2 1)) pair)
+    ∷ line (unlink pair_linked 1) (outcome (Err (AsymmetricalFaces 1 2)) pair_linked)
     -- only a closed chain is excused the step to ld
-    ∷ line (link late 1 2) (outcome (Refused (AsymmetricalFaces 1 2)) late)
+    ∷ line (link late 1 2) (outcome (Err (AsymmetricalFaces 1 2)) late)
     -- an unused dart that is linked, and one that is given: the first bad one decides; the flag of dart 0 says nothing
-    ∷ line (three_link pair (0 ∷ 0 ∷ 1 ∷ []) 1 9) (outcome (Refused (NotAMap 4 2)) pair)
-    ∷ line (three_link lone (0 ∷ 0 ∷ 9 ∷ []) 1 2) (outcome (Refused (BadDart 2)) lone)
-    ∷ line (three_link lone (0 ∷ 1 ∷ 0 ∷ []) 1 0) (outcome (Refused (BadDart 1)) lone)
-    ∷ line (three_link lone (1 ∷ 0 ∷ 0 ∷ 1 ∷ []) 1 2) (outcome pass (free ++ row 0 0 0 2 ++ row 0 0 0 1))
+    ∷ line (three_link pair (0 ∷ 0 ∷ 1 ∷ []) 1 9) (outcome (Err (NotAMap 4 2)) pair)
+    ∷ line (three_link lone (0 ∷ 0 ∷ 9 ∷ []) 1 2) (outcome (Err (BadDart 2)) lone)
+    ∷ line (three_link lone (0 ∷ 1 ∷ 0 ∷ []) 1 0) (outcome (Err (BadDart 1)) lone)
+    ∷ line (three_link lone (1 ∷ 0 ∷ 0 ∷ 1 ∷ []) 1 2) (outcome nothing (free ++ row 0 0 0 2 ++ row 0 0 0 1))
     ∷ []
 
 unfoldable pub calls : {A : Type 0} → List (Line A) → List A

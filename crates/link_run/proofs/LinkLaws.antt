@@ -6,7 +6,7 @@
 --   link_unmoved   a refused call leaves the rows
 --   core_plain, uncore_plain, walk_plain   the answers of the cores and of a walk carry no length and no count
 --   link_plain     nor does that of a link or an unlink
---   on_is, on_second   what the code's match has found; the dart that stands second will do
+--   on_second      the dart that stands second will do
 -- Assumes nothing.
 use Prim.Native.Nat.{ℕ, zero, suc}
 use native.Mathlib.Omega.{arith}
@@ -15,11 +15,9 @@ use mathlib.Core.Bool.{Bool, true, false, cond, not, ◌&&◌, ◌||◌}
 use mathlib.Core.List.{List}
 use lib.Dec.{eqb, leb}
 use lib.ListN.{length}
-use Rattle.map_betas.specs.declared.error.Answer.{Answer}
-use Rattle.map_betas.specs.declared.error.Answer.TheVariants.{Done, Refused}
 use Rattle.map_betas.specs.declared.error.Refusal.TheVariants.{NonFreeBase, NonFreeImage, AlreadyFree, AsymmetricalFaces}
 use Rattle.map_betas.specs.Betas.{beta, darts, opp, put, cut}
-use Rattle.map_betas.specs.Answers.{Out, out, pass, is_done, Outcome, given, behind}
+use Rattle.map_betas.specs.Answers.{Out, out, nothing, Outcome, given, behind, Test, done}
 use Rattle.map_betas.specs.Maps.{WellFormed, Map, Keeps, Stays}
 use Rattle.map_betas.specs.Guards.{guard_of, no_loans, Dart}
 use Rattle.map_betas.proofs.Guarded.{no_loans_lent, on_map}
@@ -33,6 +31,7 @@ use Rattle.link_walk.proofs.Kept.{bare_link_unmoved, bare_unlink_unmoved, three_
 use Rattle.link_run.specs.declared.links.Link.{Link}
 use Rattle.link_run.specs.declared.links.Link.TheVariants.{OneLink, TwoLink, ThreeLink, OneUnlink, TwoUnlink, ThreeUnlink}
 use Rattle.link_run.specs.Links.{link_on, link_call, link_second, link_tested, Plain}
+use Rattle.std.specs.Prelude.{Err, is_ok}
 
 pub link_call_lem : (l : Link) (rows flags : List ℕ) (ld rd : ℕ) →
     link_call l rows flags ld rd ≡ behind (guard_of rows flags no_loans 1 ld (link_second l ld rd)) rows (given (link_on l rows ld rd))
@@ -48,7 +47,7 @@ pub link_on_map : (l : Link) (rows flags : List ℕ) (ld rd : ℕ) → Map rows 
 unfolding link_tested
 link_on_map l rows flags ld rd m =
     link_call_lem l rows flags ld rd
-    ∙ ap (λ (g : Answer). behind g rows (given (link_on l rows ld rd)))
+    ∙ ap (λ (g : Test). behind g rows (given (link_on l rows ld rd)))
     (on_map rows flags no_loans 1 ld (link_second l ld rd) m (no_loans_lent rows m.formed))
 
 -- what each leaves of real darts: rows that are well formed and as many, and no dart linked that was free and is none of its own
@@ -87,19 +86,19 @@ either_plain false x y p q = q
 pub core_plain : (rows : List ℕ) (i l r : ℕ) → Plain (link_core rows i l r).answer
 unfolding link_core
 core_plain rows i l r =
-    either_plain (not (eqb (beta rows i l) 0)) (out (Refused (NonFreeBase i l r)) rows) _ tt
-    (either_plain (not (eqb (beta rows (opp i) r) 0) || leb 2 i && eqb l r) (out (Refused (NonFreeImage (opp i) l r)) rows) (out pass (put rows i l r)) tt refl)
+    either_plain (not (eqb (beta rows i l) 0)) (out (Err (NonFreeBase i l r)) rows) _ tt
+    (either_plain (not (eqb (beta rows (opp i) r) 0) || leb 2 i && eqb l r) (out (Err (NonFreeImage (opp i) l r)) rows) (out nothing (put rows i l r)) tt refl)
 
 pub uncore_plain : (rows : List ℕ) (i l : ℕ) → Plain (unlink_core rows i l).answer
 unfolding unlink_core
 uncore_plain rows i l =
-    either_plain (eqb (beta rows i l) 0) (out (Refused (AlreadyFree i l)) rows) (out (Done (beta rows i l) 0) (cut rows i l (beta rows i l))) tt refl
+    either_plain (eqb (beta rows i l) 0) (out (Err (AlreadyFree i l)) rows) (out (done (beta rows i l) 0) (cut rows i l (beta rows i l))) tt refl
 
 step_plain : (parting : Bool) (ld rd : ℕ) (rows : List ℕ) (l r : ℕ) → Plain (step_of parting ld rd rows l r).answer
 unfolding step_of
-step_plain false ld rd rows l r = either_plain (eqb r 0) (out (Refused (AsymmetricalFaces ld rd)) rows) (link_core rows 3 l r) tt (core_plain rows 3 l r)
+step_plain false ld rd rows l r = either_plain (eqb r 0) (out (Err (AsymmetricalFaces ld rd)) rows) (link_core rows 3 l r) tt (core_plain rows 3 l r)
 step_plain true ld rd rows l r =
-    either_plain (eqb l (beta rows 3 r)) (unlink_core rows 3 l) (out (Refused (AsymmetricalFaces ld rd)) rows) (uncore_plain rows 3 l) tt
+    either_plain (eqb l (beta rows 3 r)) (unlink_core rows 3 l) (out (Err (AsymmetricalFaces ld rd)) rows) (uncore_plain rows 3 l) tt
 
 either_leg : (b : Bool) (x y : LegOut) → Plain x.leg.answer → Plain y.leg.answer → Plain (cond b x y).leg.answer
 either_leg true x y p q = p
@@ -110,27 +109,27 @@ unfolding walk
 walk_plain parting ld rd zero rows i j stop l r k = refl
 walk_plain parting ld rd (suc f) rows i j stop l r k =
     let s : Out = step_of parting ld rd rows l r in
-    either_leg (eqb l 0 || eqb l stop) (leg_out (leg_at pass l r k) rows) _ refl
-    (either_leg (is_done s.answer)
+    either_leg (eqb l 0 || eqb l stop) (leg_out (leg_at nothing l r k) rows) _ refl
+    (either_leg (is_ok s.answer)
     (walk (step_of parting ld rd) f s.rows i j stop (beta s.rows i l) (beta s.rows j r) (suc k)) (leg_out (leg_at s.answer l r k) s.rows)
     (walk_plain parting ld rd f s.rows i j stop (beta s.rows i l) (beta s.rows j r) (suc k)) (step_plain parting ld rd rows l r))
 
 module _ (parting : Bool) (d : ℕ) (entry : List ℕ) (ld rd : ℕ) where
   last_plain : (w : LegOut) → Plain w.leg.answer → Plain (last_leg d entry w).answer
-  last_plain w p = either_plain (is_done w.leg.answer) (out (Done d 0) w.rows) (out w.leg.answer entry) refl p
+  last_plain w p = either_plain (is_ok w.leg.answer) (out (done d 0) w.rows) (out w.leg.answer entry) refl p
 
   leg_plain : (w : LegOut) → Plain w.leg.answer → Plain (after_leg parting d entry ld rd w).answer
   leg_plain w p =
       let back : LegOut = leg_back parting w.rows ld rd in
-      either_plain (is_done w.leg.answer) _ (out w.leg.answer entry)
-      (either_plain (eqb w.leg.l 0) _ (out (Done d 0) w.rows)
-      (either_plain (eqb w.leg.r 0) (last_leg d entry back) (out (Refused (AsymmetricalFaces ld rd)) entry)
+      either_plain (is_ok w.leg.answer) _ (out w.leg.answer entry)
+      (either_plain (eqb w.leg.pair.l 0) _ (out (done d 0) w.rows)
+      (either_plain (eqb w.leg.pair.r 0) (last_leg d entry back) (out (Err (AsymmetricalFaces ld rd)) entry)
       (last_plain back (walk_plain parting ld rd (suc (length w.rows)) w.rows 0 1 0 _ _ 0)) tt) refl) p
 
   three_plain : (o : Out) → Plain o.answer → Plain (after_core parting d entry ld rd o).answer
   three_plain o p =
       let on : LegOut = leg_on parting o.rows ld rd in
-      either_plain (is_done o.answer) (after_leg parting d entry ld rd on) (out o.answer entry)
+      either_plain (is_ok o.answer) (after_leg parting d entry ld rd on) (out o.answer entry)
       (leg_plain on (walk_plain parting ld rd (suc (length o.rows)) o.rows 1 0 ld _ _ 0)) p
 
 pub three_unlink_plain : (rows : List ℕ) (ld : ℕ) → Plain (three_unlink_on rows ld).answer
@@ -150,9 +149,6 @@ link_plain TwoUnlink rows ld rd = uncore_plain rows 2 ld
 link_plain ThreeUnlink rows ld rd = three_unlink_plain rows ld
 
 -- ---- for the code
-
-pub on_is : (l k : Link) (rows : List ℕ) (ld rd : ℕ) (o : Out) → l ≡ k → o ≡ link_on k rows ld rd → o ≡ link_on l rows ld rd
-on_is l k rows ld rd o e h = h ∙ ap (λ (x : Link). link_on x rows ld rd) (sym e)
 
 pub on_second : (l : Link) (rows : List ℕ) (ld rd : ℕ) → link_on l rows ld (link_second l ld rd) ≡ link_on l rows ld rd
 on_second OneLink rows ld rd = refl

@@ -4,14 +4,12 @@
 --   link_second  the second dart that it looks at
 --   link_tested  one behind the test of its darts: what is left of a call on a map
 --   Plain       an answer that carries no length and no count
-use Rattle.std.specs.Prelude.{ℕ, ◌≡◌, List}
-use Rattle.map_betas.specs.declared.error.Answer.{Answer}
-use Rattle.map_betas.specs.declared.error.Answer.TheVariants.{Done, Refused}
+use Rattle.std.specs.Prelude.{ℕ, ◌≡◌, List, Err, Ok}
 use Rattle.map_betas.specs.declared.error.Refusal.{Refusal}
 use Rattle.map_betas.specs.declared.error.Refusal.TheVariants.{BadSize, ShortLoan, NotAMap, BadDart, BadBeta, NonFreeBase, NonFreeImage}
 use Rattle.map_betas.specs.declared.error.Refusal.TheVariants.{AlreadyFree, AsymmetricalFaces, BadGeometry, PlanRoom, BadImage, BadCommand, ImageRoom}
 use Rattle.map_betas.specs.Betas.{darts}
-use Rattle.map_betas.specs.Answers.{Out, Outcome, given, behind}
+use Rattle.map_betas.specs.Answers.{Out, Outcome, given, behind, Answer}
 use Rattle.map_betas.specs.Guards.{dart_test}
 use Rattle.map_betas.specs.Cores.{link_core, unlink_core}
 use Rattle.link_walk.specs.Three.{three_link_on, three_unlink_on}
@@ -68,5 +66,5 @@ PlainRefusal (ImageRoom k) = ⊥
 
 -- an answer of a link: it has written nothing, and says no length
 abbrev pub Plain : Answer → Type 0
-Plain (Done d k) = k ≡ 0
-Plain (Refused w) = PlainRefusal w
+Plain (Ok x) = x.count ≡ 0
+Plain (Err w) = PlainRefusal w

@@ -7,55 +7,57 @@ ghost use Rattle.link_walk.specs.Walk.{step_of};
 ghost use Rattle.link_walk.specs.Three.{after_core, three_link_on, three_unlink_on};
 
 use link_back::back::back;
-use link_walk::walk::{former, step, undo_leg, walk_leg};
+use link_walk::pair::Pair;
+use link_walk::step::{Linking, Parting, Step};
+use link_walk::walk::{undo_leg, walk_leg};
 use map_betas::betas::beta_at;
-use map_betas::error::{Answer, Refusal, is_done};
+use map_betas::error::{Answer, Done, Refusal};
 
-// The 3-link of ld and rd, or their 3-unlink where parting holds. After a refusal the rows are as they were.
-fn three_on(rows: &mut [u32], parting: bool, ld: u32, rd: u32) -> Answer
-    requires { WellFormed rows.old × (0 < ld) × (ld < darts rows.old) × (rd < darts rows.old) }
-    ensures { out result rows.new ≡ after_core parting (cond parting rd 0) rows.old ld rd
-        (step_of parting ld rd rows.old ld rd) }
+// The 3-link of the darts of the call, or their 3-unlink where S parts. After a refusal the rows are as they were.
+fn three_on<S: Step>(rows: &mut [u32], call: Pair) -> Answer
+    requires { WellFormed rows.old × (0 < call.l) × (call.l < darts rows.old) × (call.r < darts rows.old) }
+    ensures { out result rows.new ≡ after_core S.parting (cond S.parting call.r 0) rows.old call.l call.r
+        (step_of S.parting call.l call.r rows.old call.l call.r) }
 {
-    let a = step(rows, parting, ld, rd, ld, rd);
-    if !is_done(a) {
-        return a;
+    S::step(rows, call, call)?;
+    let first = call.next(rows, 1, 0);
+    let leg = walk_leg::<S>(rows, 1, 0, call.l, call, first);
+    let steps = leg.steps + 1;
+    if let Err(refusal) = leg.answer {
+        undo_leg::<S>(rows, 1, 0, call, steps);
+        return Err(refusal);
     }
-    let l1 = beta_at(rows, 1, ld);
-    let r1 = beta_at(rows, 0, rd);
-    let w = walk_leg(rows, parting, 1, 0, ld, ld, rd, l1, r1);
-    let b = w.answer;
-    let steps = w.steps + 1;
-    if !is_done(b) {
-        undo_leg(rows, parting, 1, 0, ld, rd, steps);
-        return b;
+    if leg.pair.l != 0 {
+        return Ok(Done {
+            value: S::former(call.r),
+            count: 0,
+        });
     }
-    if w.l != 0 {
-        return Answer::Done(former(parting, rd), 0);
+    if leg.pair.r != 0 {
+        undo_leg::<S>(rows, 1, 0, call, steps);
+        return Err(Refusal::AsymmetricalFaces(call.l, call.r));
     }
-    if w.r != 0 {
-        undo_leg(rows, parting, 1, 0, ld, rd, steps);
-        return Answer::Refused(Refusal::AsymmetricalFaces(ld, rd));
-    }
-    back(rows, parting, ld, rd, steps)
+    back::<S>(rows, call, steps)
 }
 
 // The 3-link of two real darts of a map.
+#[tactic(auto, using(link_walk::proofs::ThreeLaws::on_link))]
 pub fn three_link_on(rows: &mut [u32], ld: u32, rd: u32) -> Answer
     requires { WellFormed rows.old × (0 < ld) × (ld < darts rows.old) × (0 < rd) × (rd < darts rows.old) }
     ensures { out result rows.new ≡ three_link_on rows.old ld rd }
 {
-    three_on(rows, false, ld, rd)
+    three_on::<Linking>(rows, Pair { l: ld, r: rd })
 }
 
 // The 3-unlink of a real dart of a map; its image is answered.
+#[tactic(auto, using(link_walk::proofs::ThreeLaws::on_free, link_walk::proofs::ThreeLaws::on_unlink))]
 pub fn three_unlink_on(rows: &mut [u32], ld: u32) -> Answer
     requires { WellFormed rows.old × (0 < ld) × (ld < darts rows.old) }
     ensures { out result rows.new ≡ three_unlink_on rows.old ld }
 {
     let rd = beta_at(rows, 3, ld);
     if rd == 0 {
-        return Answer::Refused(Refusal::AlreadyFree(3, ld));
+        return Err(Refusal::AlreadyFree(3, ld));
     }
-    three_on(rows, true, ld, rd)
+    three_on::<Parting>(rows, Pair { l: ld, r: rd })
 }

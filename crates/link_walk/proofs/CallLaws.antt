@@ -1,30 +1,28 @@
 -- The tests of a link or an unlink, which has no loans and refuses the null dart.
---   tested   what the code tested is what the definition tests
 --   passed   what holds once they have passed: a map, and real darts of it in use
 --   admits   they pass on a map and real darts of it in use
 --   through  a call that is done is its core, and its tests passed
 --   inside   a call on a map and real darts of it in use is its core
+--   behind_tests   what the code returns where they refuse, and what it goes on to where they pass
 -- Assumes nothing.
 use Prim.Native.Nat.{ℕ}
 use native.Mathlib.Omega.{arith}
 use mathlib.Core.Path.{◌≡◌, refl, sym, ap, ◌∙◌}
 use mathlib.Core.List.{List}
-use mathlib.Core.Bool.{Bool, true, false, cond, true≢false}
-use Rattle.map_betas.specs.declared.error.Answer.{Answer}
-use Rattle.map_betas.specs.declared.loans.Loans.{Loans}
-use Rattle.map_betas.specs.Answers.{Outcome, outcome, pass, is_done, behind}
+use mathlib.Core.Bool.{true, true≢false}
+use Rattle.map_betas.specs.Answers.{Outcome, pass, behind, Test}
 use Rattle.map_betas.specs.Guards.{no_loans, guard_of}
 use Rattle.link_walk.specs.Calls.{Used}
-use Rattle.map_betas.proofs.AnswerLaws.{behind_done}
+use Rattle.map_betas.proofs.AnswerLaws.{behind_refused, behind_done}
 use Rattle.map_betas.proofs.GuardLaws.{ready}
 use Rattle.map_betas.proofs.Guarded.{no_loans_lent, guard_iff}
+use Rattle.std.specs.Prelude.{Err, Ok, is_ok}
 
-pub tested : (rows flags : List ℕ) (x : Loans) (a b : ℕ) (g : Answer) → x ≡ no_loans → g ≡ guard_of rows flags x 1 a b → g ≡ guard_of rows flags no_loans 1 a b
-tested rows flags x a b g p e = e ∙ ap (λ (y : Loans). guard_of rows flags y 1 a b) p
+pub ruleset behind_tests = (behind_refused, behind_done)
 
-pub passed : (rows flags : List ℕ) (a b : ℕ) (g : Answer) → g ≡ guard_of rows flags no_loans 1 a b → is_done g ≡ true → Used rows flags a b
-passed rows flags a b g e t =
-    let h = ready rows flags no_loans 1 a b (ap is_done (sym e) ∙ t) in
+pub passed : {rows flags : List ℕ} {a b : ℕ} {g : Test} → g ≡ guard_of rows flags no_loans 1 a b → is_ok g ≡ true → Used rows flags a b
+passed {rows} {flags} {a} {b} {g} e t =
+    let h = ready rows flags no_loans 1 a b (ap is_ok (sym e) ∙ t) in
     let l = h.left in
     let r = h.right in
     record {
@@ -48,14 +46,14 @@ admits rows flags a b h =
     }))
 
 module _ (rows flags : List ℕ) (a b : ℕ) (o : Outcome (List ℕ)) where
-  pub through : is_done (behind (guard_of rows flags no_loans 1 a b) rows o).answer ≡ true →
+  pub through : is_ok (behind (guard_of rows flags no_loans 1 a b) rows o).answer ≡ true →
       Used rows flags a b × (behind (guard_of rows flags no_loans 1 a b) rows o ≡ o)
-  through = go (guard_of rows flags no_loans 1 a b) refl (is_done (guard_of rows flags no_loans 1 a b)) refl
+  through = go (guard_of rows flags no_loans 1 a b) refl
     where
-      go : (g : Answer) → g ≡ guard_of rows flags no_loans 1 a b → (c : Bool) → is_done g ≡ c → is_done (cond c o (outcome g rows)).answer ≡ true →
-          Used rows flags a b × (cond c o (outcome g rows) ≡ o)
-      go g e true t d = (passed rows flags a b g e t, refl)
-      go g e false t d = absurd (true≢false (sym d ∙ t))
+      go : (g : Test) → g ≡ guard_of rows flags no_loans 1 a b → is_ok (behind g rows o).answer ≡ true →
+          Used rows flags a b × (behind g rows o ≡ o)
+      go (Ok x) e t = (passed e refl, refl)
+      go (Err w) e t = absurd (true≢false (sym t))
 
   pub inside : Used rows flags a b → behind (guard_of rows flags no_loans 1 a b) rows o ≡ o
-  inside h = sym (behind_done pass (guard_of rows flags no_loans 1 a b) (admits rows flags a b h) rows o refl)
+  inside h = sym (behind_done (admits rows flags a b h) rows o refl)

@@ -14,11 +14,9 @@ use mathlib.Core.List.{List}
 use mathlib.Core.Bool.{Bool, true, false, cond, not, ◌&&◌, ◌||◌, true≢false}
 use lib.Dec.{eqb, leb}
 use lib.ListN.{length}
-use Rattle.map_betas.specs.declared.error.Answer.{Answer}
-use Rattle.map_betas.specs.declared.error.Answer.TheVariants.{Done, Refused}
 use Rattle.map_betas.specs.declared.error.Refusal.TheVariants.{AsymmetricalFaces, NonFreeBase, NonFreeImage, AlreadyFree}
 use Rattle.map_betas.specs.Betas.{beta, darts, opp, put, cut}
-use Rattle.map_betas.specs.Answers.{Out, out, is_done, Outcome, outcome, given, behind}
+use Rattle.map_betas.specs.Answers.{Out, out, Outcome, given, behind, Answer, Test, done}
 use Rattle.map_betas.specs.Guards.{guard_of, no_loans}
 use Rattle.map_betas.specs.Cores.{link_core, unlink_core}
 use Rattle.map_betas.specs.Maps.{WellFormed, Map, Keeps, Stays}
@@ -30,6 +28,7 @@ use Rattle.link_walk.proofs.StepLaws.{Changed, step_done, changed_formed, change
 use Rattle.link_walk.proofs.UndoLaws.{Walked, walked}
 use Rattle.link_walk.proofs.ThreeLaws.{on_link, on_free, on_unlink}
 use Rattle.link_walk.proofs.CallLaws.{passed}
+use Rattle.std.specs.Prelude.{Err, Ok, is_ok}
 
 module _ (l r : ℕ) (entry : List ℕ) where
   either : (b : Bool) (x y : Out) → Keeps l r entry x.rows → Keeps l r entry y.rows → Keeps l r entry (cond b x y).rows
@@ -61,21 +60,21 @@ module _ (parting : Bool) (d : ℕ) (entry : List ℕ) (ld rd : ℕ) (s : WellFo
       (s₂.below 0 ld) (s₂.below 1 rd) in
       let f₃ = g₂.spared (next_linked w.rows 0 ld s₂ (omega arith) nl) (next_linked w.rows 1 rd s₂ (omega arith) h.real) in
       let last : Out = last_leg d entry v in
-      let uneven : Out = out (Refused (AsymmetricalFaces ld rd)) entry in
+      let uneven : Out = out (Err (AsymmetricalFaces ld rd)) entry in
       let long : length w.rows ≡ length entry = g.long ∙ q₁ in
       let kept-w : Keeps ld rd entry w.rows = (s₂, long, λ e x y f. f₂ e (f₁ e x y f)) in
       let kept-v : Keeps ld rd entry v.rows = (g₂.formed, g₂.long ∙ long, λ e x y f. f₃ e (kept-w.2 e x y f)) in
-      let kept-last : Kept last = either ld rd entry (is_done v.leg.answer) (out (Done d 0) v.rows) (out v.leg.answer entry) kept-v as_was in
-      let open' : Out = cond (eqb w.leg.r 0) last uneven in
-      let kept-open : Kept open' = either ld rd entry (eqb w.leg.r 0) last uneven kept-last as_was in
-      let whole : Out = cond (eqb w.leg.l 0) open' (out (Done d 0) w.rows) in
-      let kept_whole : Kept whole = either ld rd entry (eqb w.leg.l 0) open' (out (Done d 0) w.rows) kept-open kept-w in
-      either ld rd entry (is_done w.leg.answer) whole (out w.leg.answer entry) kept_whole as_was
+      let kept-last : Kept last = either ld rd entry (is_ok v.leg.answer) (out (done d 0) v.rows) (out v.leg.answer entry) kept-v as_was in
+      let open' : Out = cond (eqb w.leg.pair.r 0) last uneven in
+      let kept-open : Kept open' = either ld rd entry (eqb w.leg.pair.r 0) last uneven kept-last as_was in
+      let whole : Out = cond (eqb w.leg.pair.l 0) open' (out (done d 0) w.rows) in
+      let kept_whole : Kept whole = either ld rd entry (eqb w.leg.pair.l 0) open' (out (done d 0) w.rows) kept-open kept-w in
+      either ld rd entry (is_ok w.leg.answer) whole (out w.leg.answer entry) kept_whole as_was
 
   pub three_kept : Keeps ld rd entry (after_core parting d entry ld rd (step_of parting ld rd entry ld rd)).rows
-  three_kept = go (step_of parting ld rd entry ld rd) refl (is_done (step_of parting ld rd entry ld rd).answer) refl
+  three_kept = go (step_of parting ld rd entry ld rd) refl (is_ok (step_of parting ld rd entry ld rd).answer) refl
     where
-      go : (o : Out) → o ≡ step_of parting ld rd entry ld rd → (b : Bool) → is_done o.answer ≡ b →
+      go : (o : Out) → o ≡ step_of parting ld rd entry ld rd → (b : Bool) → is_ok o.answer ≡ b →
           Kept (cond b (after_leg parting d entry ld rd (leg_on parting o.rows ld rd)) (out o.answer entry))
       go o e true t = leg_kept o.rows (step_done entry o.answer o.rows ld rd ld rd parting s nl e t)
       go o e false t = as_was
@@ -98,46 +97,43 @@ unlink_kept rows ld s hl nl =
 
 module _ (rows flags : List ℕ) (a b : ℕ) (m : Map rows flags) (o : Out) (k : Real rows a b → Keeps a b rows o.rows) where
   pub call_kept : Stays flags rows (behind (guard_of rows flags no_loans 1 a b) rows (given o)).loans
-  call_kept = go (guard_of rows flags no_loans 1 a b) refl (is_done (guard_of rows flags no_loans 1 a b)) refl
+  call_kept = go (guard_of rows flags no_loans 1 a b) refl
     where
-      go : (g : Answer) → g ≡ guard_of rows flags no_loans 1 a b → (c : Bool) → is_done g ≡ c → Stays flags rows (cond c (given o) (outcome g rows)).loans
-      go g e true t = let h = passed rows flags a b g e t in kept_map a b rows flags o.rows m h.left h.right (k h.real)
-      go g e false t = (m, refl)
+      go : (g : Test) → g ≡ guard_of rows flags no_loans 1 a b → Stays flags rows (behind g rows (given o)).loans
+      go (Ok x) e = let h = passed e refl in kept_map a b rows flags o.rows m h.left h.right (k h.real)
+      go (Err w) e = (m, refl)
 
 -- a refusal leaves the rows as they were
 
 abbrev pub Unmoved : List ℕ → Outcome (List ℕ) → Type 0
-Unmoved rows o = is_done o.answer ≡ false → o.loans ≡ rows
+Unmoved rows o = is_ok o.answer ≡ false → o.loans ≡ rows
 
 module _ (rows : List ℕ) where
   or_else : (b : Bool) (x y : Out) → Unmoved rows (given x) → Unmoved rows (given y) → Unmoved rows (given (cond b x y))
   or_else true x y kx ky = kx
   or_else false x y kx ky = ky
 
-  done : (d : ℕ) (xs : List ℕ) → Unmoved rows (given (out (Done d 0) xs))
-  done d xs t = absurd (true≢false t)
+  when_done : (d : ℕ) (xs : List ℕ) → Unmoved rows (given (out (done d 0) xs))
+  when_done d xs t = absurd (true≢false t)
 
   here : (a : Answer) → Unmoved rows (given (out a rows))
   here a t = refl
 
-  tested : (g : Answer) (o : Out) → Unmoved rows (given o) → Unmoved rows (behind g rows (given o))
-  tested g o k = go (is_done g)
-    where
-      go : (b : Bool) → Unmoved rows (cond b (given o) (outcome g rows))
-      go true = k
-      go false = λ t. refl
+  tested : (g : Test) (o : Out) → Unmoved rows (given o) → Unmoved rows (behind g rows (given o))
+  tested (Ok x) o k = k
+  tested (Err w) o k = λ t. refl
 
   three_unmoved : (parting : Bool) (d ld rd : ℕ) (o : Out) → Unmoved rows (given (after_core parting d rows ld rd o))
   three_unmoved parting d ld rd o =
       let w : LegOut = leg_on parting o.rows ld rd in
       let v : LegOut = leg_back parting w.rows ld rd in
-      or_else (is_done o.answer) _ _
-      (or_else (is_done w.leg.answer) _ _
-      (or_else (eqb w.leg.l 0) _ _
-      (or_else (eqb w.leg.r 0) _ _
-      (or_else (is_done v.leg.answer) _ _ (done d v.rows) (here v.leg.answer))
-      (here (Refused (AsymmetricalFaces ld rd))))
-      (done d w.rows))
+      or_else (is_ok o.answer) _ _
+      (or_else (is_ok w.leg.answer) _ _
+      (or_else (eqb w.leg.pair.l 0) _ _
+      (or_else (eqb w.leg.pair.r 0) _ _
+      (or_else (is_ok v.leg.answer) _ _ (when_done d v.rows) (here v.leg.answer))
+      (here (Err (AsymmetricalFaces ld rd))))
+      (when_done d w.rows))
       (here w.leg.answer))
       (here o.answer)
 
@@ -150,15 +146,15 @@ module _ (rows flags : List ℕ) where
   unfolding bare_link link_core
   bare_link_unmoved i ld rd =
       tested rows (guard_of rows flags no_loans 1 ld rd) _
-      (or_else rows (not (eqb (beta rows i ld) 0)) _ _ (here rows (Refused (NonFreeBase i ld rd)))
-      (or_else rows (not (eqb (beta rows (opp i) rd) 0) || leb 2 i && eqb ld rd) _ _ (here rows (Refused (NonFreeImage (opp i) ld rd)))
-      (done rows 0 (put rows i ld rd))))
+      (or_else rows (not (eqb (beta rows i ld) 0)) _ _ (here rows (Err (NonFreeBase i ld rd)))
+      (or_else rows (not (eqb (beta rows (opp i) rd) 0) || leb 2 i && eqb ld rd) _ _ (here rows (Err (NonFreeImage (opp i) ld rd)))
+      (when_done rows 0 (put rows i ld rd))))
 
   pub bare_unlink_unmoved : (i ld : ℕ) → Unmoved rows (bare_unlink rows flags i ld)
   unfolding bare_unlink unlink_core
   bare_unlink_unmoved i ld =
       tested rows (guard_of rows flags no_loans 1 ld ld) _
-      (or_else rows (eqb (beta rows i ld) 0) _ _ (here rows (Refused (AlreadyFree i ld))) (done rows (beta rows i ld) (cut rows i ld (beta rows i ld))))
+      (or_else rows (eqb (beta rows i ld) 0) _ _ (here rows (Err (AlreadyFree i ld))) (when_done rows (beta rows i ld) (cut rows i ld (beta rows i ld))))
 
   pub three_link_unmoved : (ld rd : ℕ) → Unmoved rows (three_link rows flags ld rd)
   unfolding three_link three_link_on

@@ -18,10 +18,8 @@ use lib.ListN.{length, set, length-set}
 use borrow.Author.Tests.{eq-eqb, ne_eqb}
 use Rattle.map_betas.specs.Betas.{place, beta, darts}
 use Rattle.map_betas.specs.Maps.{WellFormed}
-use Rattle.map_betas.specs.declared.error.Answer.{Answer}
-use Rattle.map_betas.specs.declared.error.Answer.TheVariants.{Refused}
 use Rattle.map_betas.specs.declared.error.Refusal.TheVariants.{AsymmetricalFaces}
-use Rattle.map_betas.specs.Answers.{Out, out, is_done}
+use Rattle.map_betas.specs.Answers.{Out, out, Answer}
 use Rattle.map_betas.specs.Cores.{link_core, unlink_core}
 use Rattle.map_betas.proofs.AnswerLaws.{not_both, rows_same}
 use Rattle.map_betas.proofs.Stores.{PairChanged, places_below, pair_length, pair_others, pair_l, pair_r, pair_back, pair_formed}
@@ -29,6 +27,7 @@ use Rattle.map_betas.proofs.Kept.{link_changed, link_refused, unlink_changed, un
 use Rattle.link_walk.specs.Walk.{step_of}
 use Rattle.link_walk.specs.Undo.{Inside}
 use Rattle.link_walk.proofs.Stores.{zeros, zeros_le, zeros_fill, zeros_fill_le, zeros_clear, zeros_clear_le}
+use Rattle.std.specs.Prelude.{Err, is_ok}
 
 -- the pair was free and is linked by beta 3, or was linked and is free
 abbrev pub Changed : Bool → List ℕ → ℕ → ℕ → List ℕ → Type 0
@@ -37,7 +36,7 @@ Changed parting rows l r rows' = PairChanged parting rows 3 l r rows'
 -- the cases of a step
 
 module _ (ld rd : ℕ) (rows : List ℕ) (l r : ℕ) where
-  pub step_null : r ≡ 0 → out (Refused (AsymmetricalFaces ld rd)) rows ≡ step_of false ld rd rows l r
+  pub step_null : r ≡ 0 → out (Err (AsymmetricalFaces ld rd)) rows ≡ step_of false ld rd rows l r
   unfolding step_of
   step_null e = simp (eq-eqb r 0 e)
 
@@ -45,7 +44,7 @@ module _ (ld rd : ℕ) (rows : List ℕ) (l r : ℕ) where
   unfolding step_of
   step_link e = simp (ne_eqb r 0 e)
 
-  pub step_stray : l ≢ beta rows 3 r → out (Refused (AsymmetricalFaces ld rd)) rows ≡ step_of true ld rd rows l r
+  pub step_stray : l ≢ beta rows 3 r → out (Err (AsymmetricalFaces ld rd)) rows ≡ step_of true ld rd rows l r
   unfolding step_of
   step_stray e = simp (ne_eqb _ _ e)
 
@@ -54,36 +53,36 @@ module _ (ld rd : ℕ) (rows : List ℕ) (l r : ℕ) where
   step_unlink e = simp (eq-eqb _ _ e)
 
 module _ (rows : List ℕ) (a : Answer) (rows' : List ℕ) (ld rd l r : ℕ) where
-  pub link_step_done : out a rows' ≡ step_of false ld rd rows l r → is_done a ≡ true → Changed false rows l r rows'
+  pub link_step_done : out a rows' ≡ step_of false ld rd rows l r → is_ok a ≡ true → Changed false rows l r rows'
   link_step_done e t =
       by_cases (ℕ_discrete r 0)
       (λ (z : r ≡ 0). absurd (not_both _ _ (e ∙ sym (step_null ld rd rows l r z)) refl t))
       (λ (n : r ≢ 0).
       let q : link_core rows 3 l r ≡ out a rows' = step_link ld rd rows l r n ∙ sym e in
-      rw (sym (rows_same _ _ q)) (link_changed rows 3 l r (ap (λ (o : Out). is_done o.answer) q ∙ t) n))
+      rw (sym (rows_same _ _ q)) (link_changed rows 3 l r (ap (λ (o : Out). is_ok o.answer) q ∙ t) n))
 
-  pub step_done : (parting : Bool) → WellFormed rows → l ≢ 0 → out a rows' ≡ step_of parting ld rd rows l r → is_done a ≡ true → Changed parting rows l r rows'
+  pub step_done : (parting : Bool) → WellFormed rows → l ≢ 0 → out a rows' ≡ step_of parting ld rd rows l r → is_ok a ≡ true → Changed parting rows l r rows'
   step_done false w nl e t = link_step_done e t
   step_done true w nl e t =
       by_cases (ℕ_discrete l (beta rows 3 r))
       (λ (p : l ≡ beta rows 3 r).
       let q : unlink_core rows 3 l ≡ out a rows' = step_unlink ld rd rows l r p ∙ sym e in
       let b : r ≡ beta rows 3 l = sym (ap (λ (d : ℕ). beta rows 3 d) p ∙ w.back 3 r (omega arith) (λ z. nl (p ∙ z))) in
-      rw (sym (rows_same _ _ q), b) (unlink_changed rows 3 l w (omega arith) (omega arith) (ap (λ (o : Out). is_done o.answer) q ∙ t)))
+      rw (sym (rows_same _ _ q), b) (unlink_changed rows 3 l w (omega arith) (omega arith) (ap (λ (o : Out). is_ok o.answer) q ∙ t)))
       (λ (p : l ≢ beta rows 3 r). absurd (not_both _ _ (e ∙ sym (step_stray ld rd rows l r p)) refl t))
 
-  pub step_kept : (parting : Bool) → out a rows' ≡ step_of parting ld rd rows l r → is_done a ≡ false → rows' ≡ rows
+  pub step_kept : (parting : Bool) → out a rows' ≡ step_of parting ld rd rows l r → is_ok a ≡ false → rows' ≡ rows
   step_kept false e t =
       by_cases (ℕ_discrete r 0)
       (λ (z : r ≡ 0). rows_same _ _ (e ∙ sym (step_null ld rd rows l r z)))
       (λ (n : r ≢ 0).
       let q : link_core rows 3 l r ≡ out a rows' = step_link ld rd rows l r n ∙ sym e in
-      sym (rows_same _ _ q) ∙ link_refused rows 3 l r (ap (λ (o : Out). is_done o.answer) q ∙ t))
+      sym (rows_same _ _ q) ∙ link_refused rows 3 l r (ap (λ (o : Out). is_ok o.answer) q ∙ t))
   step_kept true e t =
       by_cases (ℕ_discrete l (beta rows 3 r))
       (λ (p : l ≡ beta rows 3 r).
       let q : unlink_core rows 3 l ≡ out a rows' = step_unlink ld rd rows l r p ∙ sym e in
-      sym (rows_same _ _ q) ∙ unlink_refused rows 3 l (ap (λ (o : Out). is_done o.answer) q ∙ t))
+      sym (rows_same _ _ q) ∙ unlink_refused rows 3 l (ap (λ (o : Out). is_ok o.answer) q ∙ t))
       (λ (p : l ≢ beta rows 3 r). rows_same _ _ (e ∙ sym (step_stray ld rd rows l r p)))
 
 -- rows that are well formed are inside

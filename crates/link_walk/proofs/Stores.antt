@@ -4,12 +4,19 @@
 --   zeros, zeros_..   how many places are null, and how a store changes that: why a walk ends
 --   clear_comm        stores of 0 commute
 -- Assumes nothing.
-use Prim.Native.Nat.{ℕ, zero, suc, ◌<◌, ◌≤◌}
+use Prim.Native.Nat.{ℕ, ◌+◌, ◌<◌, ◌≤◌}
 use native.Mathlib.Omega.{arith}
 use native.Mathlib.Decide.{ℕ_discrete}
-use mathlib.Core.Path.{◌≡◌, refl, ◌∙◌}
-use mathlib.Core.Logic.{◌≢◌, by_cases}
-use mathlib.Core.List.{List, [], ◌∷◌}
+use mathlib.Core.Path.{◌≡◌, ◌∙◌}
+use mathlib.Core.Logic.{◌≢◌, by_cases, ⊎_elim}
+use mathlib.Core.List.{List}
+use mathlib.Core.Bool.{Bool, true, false, cond}
+use lib.Dec.{eqb}
+use borrow.Author.Tests.{ne_eqb}
+use Rattle.std.specs.List.{count_by}
+use Rattle.std.proofs.lemmas.List.{set_past, get_or_past}
+use Rattle.std.proofs.lemmas.List.Sums.{count_by-le-length, sum_by-set}
+use Rattle.std.proofs.lemmas.Bool.{cases_lt}
 use lib.ListN.{length, get_or, set, length-set}
 use lib.Seq.{get_or-set_other, set_comm}
 use Rattle.map_betas.specs.Betas.{place, beta}
@@ -29,36 +36,26 @@ beta_set rows i d a v h = get_or-set_other rows (place 3 a) (place i d) v 0 (ome
 
 -- how many places are null
 unfoldable pub zeros : List ℕ → ℕ
-zeros [] = 0
-zeros (zero ∷ xs) = suc (zeros xs)
-zeros (suc x ∷ xs) = zeros xs
+zeros xs = count_by (λ x. eqb x 0) xs
 
 pub zeros_le : (xs : List ℕ) → zeros xs ≤ length xs
 unfolding zeros
-zeros_le [] = omega arith
-zeros_le (zero ∷ xs) = let h = zeros_le xs in omega arith
-zeros_le (suc x ∷ xs) = let h = zeros_le xs in omega arith
+zeros_le xs = count_by-le-length (λ x. eqb x 0) xs
+
+-- a store in a place: what stood there no longer counts, and what is stored does
+zeros_set : (xs : List ℕ) (k v : ℕ) → k < length xs → zeros (set xs k v) + cond (eqb (get_or xs k 0) 0) 1 0 ≡ zeros xs + cond (eqb v 0) 1 0
+unfolding zeros
+zeros_set xs k v h = sum_by-set (λ x. cond (eqb x 0) 1 0) xs k v 0 h
 
 -- a store of a dart
 pub zeros_fill_le : (xs : List ℕ) (k v : ℕ) → v ≢ 0 → zeros (set xs k v) ≤ zeros xs
-unfolding zeros
-zeros_fill_le [] k v n = omega arith
-zeros_fill_le (zero ∷ xs) zero zero n = absurd (n refl)
-zeros_fill_le (zero ∷ xs) zero (suc v) n = omega arith
-zeros_fill_le (zero ∷ xs) (suc k) v n = let h = zeros_fill_le xs k v n in omega arith
-zeros_fill_le (suc x ∷ xs) zero zero n = absurd (n refl)
-zeros_fill_le (suc x ∷ xs) zero (suc v) n = omega arith
-zeros_fill_le (suc x ∷ xs) (suc k) v n = zeros_fill_le xs k v n
+zeros_fill_le xs k v n =
+    ⊎_elim (λ h. let e = simp (ne_eqb v 0 n) at (zeros_set xs k v h) in omega arith) (λ h. rw (set_past xs k v h) (omega arith))
+    (cases_lt k (length xs))
 
 -- a store of a dart where null stood
 pub zeros_fill : (xs : List ℕ) (k v : ℕ) → k < length xs → get_or xs k 0 ≡ 0 → v ≢ 0 → zeros (set xs k v) < zeros xs
-unfolding zeros
-zeros_fill [] k v l z n = absurd (omega arith)
-zeros_fill (zero ∷ xs) zero zero l z n = absurd (n refl)
-zeros_fill (zero ∷ xs) zero (suc v) l z n = omega arith
-zeros_fill (zero ∷ xs) (suc k) v l z n = let h = zeros_fill xs k v (omega arith) z n in omega arith
-zeros_fill (suc x ∷ xs) zero v l z n = absurd (omega arith)
-zeros_fill (suc x ∷ xs) (suc k) v l z n = zeros_fill xs k v (omega arith) z n
+zeros_fill xs k v h z n = let e = simp (ne_eqb v 0 n, z) at (zeros_set xs k v h) in omega arith
 
 -- stores of 0 commute
 pub clear_comm : (xs : List ℕ) (a b : ℕ) → set (set xs a 0) b 0 ≡ set (set xs b 0) a 0
@@ -67,18 +64,16 @@ clear_comm xs a b =
 
 -- a store of 0
 pub zeros_clear_le : (xs : List ℕ) (k : ℕ) → zeros xs ≤ zeros (set xs k 0)
-unfolding zeros
-zeros_clear_le [] k = omega arith
-zeros_clear_le (zero ∷ xs) zero = omega arith
-zeros_clear_le (zero ∷ xs) (suc k) = let h = zeros_clear_le xs k in omega arith
-zeros_clear_le (suc x ∷ xs) zero = omega arith
-zeros_clear_le (suc x ∷ xs) (suc k) = zeros_clear_le xs k
+zeros_clear_le xs k =
+    ⊎_elim (λ h. let e = zeros_set xs k 0 h in let f = at_most_one (eqb (get_or xs k 0) 0) in omega arith) (λ h. rw (set_past xs k 0 h) (omega arith))
+    (cases_lt k (length xs))
+  where
+    at_most_one : (b : Bool) → cond b 1 0 ≤ 1
+    at_most_one true = omega arith
+    at_most_one false = omega arith
 
 -- a store of 0 where a dart stood
 pub zeros_clear : (xs : List ℕ) (k : ℕ) → get_or xs k 0 ≢ 0 → zeros xs < zeros (set xs k 0)
-unfolding zeros
-zeros_clear [] k n = absurd (n refl)
-zeros_clear (zero ∷ xs) zero n = absurd (n refl)
-zeros_clear (zero ∷ xs) (suc k) n = let h = zeros_clear xs k n in omega arith
-zeros_clear (suc x ∷ xs) zero n = omega arith
-zeros_clear (suc x ∷ xs) (suc k) n = zeros_clear xs k n
+zeros_clear xs k n =
+    ⊎_elim (λ h. let e = simp (ne_eqb (get_or xs k 0) 0 n) at (zeros_set xs k 0 h) in omega arith) (λ h. absurd (n (get_or_past xs k 0 h)))
+    (cases_lt k (length xs))

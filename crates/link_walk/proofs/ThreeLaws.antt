@@ -15,10 +15,8 @@ use lib.ListN.{length}
 use borrow.Author.Tests.{eq-eqb, ne_eqb}
 use Rattle.map_betas.specs.Betas.{beta, darts}
 use Rattle.map_betas.specs.Maps.{WellFormed}
-use Rattle.map_betas.specs.declared.error.Answer.{Answer}
-use Rattle.map_betas.specs.declared.error.Answer.TheVariants.{Done, Refused}
 use Rattle.map_betas.specs.declared.error.Refusal.TheVariants.{AsymmetricalFaces, AlreadyFree}
-use Rattle.map_betas.specs.Answers.{Out, out, is_done}
+use Rattle.map_betas.specs.Answers.{Out, out, Answer, done}
 use Rattle.map_betas.specs.Cores.{unlink_core}
 use Rattle.map_betas.proofs.CoreLaws.{unlink_free}
 use Rattle.link_walk.specs.declared.walk.Leg.{Leg}
@@ -27,6 +25,7 @@ use Rattle.link_walk.specs.Three.{leg_on, leg_back, last_leg, after_core, three_
 use Rattle.link_walk.specs.Undo.{undone, Inside}
 use Rattle.link_walk.proofs.StepLaws.{Changed, step_link, step_unlink, formed_inside, changed_formed}
 use Rattle.link_walk.proofs.UndoLaws.{Walked, walked, again_on}
+use Rattle.std.specs.Prelude.{Err, is_ok}
 
 -- rows as long as others
 pub inside_now : (rows rows' : List ℕ) (a b : ℕ) → length rows' ≡ length rows → WellFormed rows' → a < darts rows → b < darts rows →
@@ -54,30 +53,30 @@ module _ (parting : Bool) (ld rd i j stop f : ℕ) (rows : List ℕ) (l r : ℕ)
 
 -- the second leg
 module _ (d : ℕ) (entry : List ℕ) (w : Leg) (rows' : List ℕ) (o : LegOut) (e : leg_out w rows' ≡ o) where
-  pub last_refused : (rows'' : List ℕ) → is_done w.answer ≡ false → rows'' ≡ entry → out w.answer rows'' ≡ last_leg d entry o
+  pub last_refused : (rows'' : List ℕ) → is_ok w.answer ≡ false → rows'' ≡ entry → out w.answer rows'' ≡ last_leg d entry o
   last_refused rows'' t q = simp (q, ← e, t)
 
-  pub last_done : (x : ℕ) → x ≡ d → is_done w.answer ≡ true → out (Done x 0) rows' ≡ last_leg d entry o
+  pub last_done : (x : ℕ) → x ≡ d → is_ok w.answer ≡ true → out (done x 0) rows' ≡ last_leg d entry o
   last_done x p t = simp (← e, t, p)
 
 -- the whole, after a step at ld and rd that left a and rows₁
 module _ (parting : Bool) (d : ℕ) (entry : List ℕ) (ld rd : ℕ) (a : Answer) (rows₁ : List ℕ) (o : Out) (e : out a rows₁ ≡ o) where
-  pub on_refused : is_done a ≡ false → rows₁ ≡ entry → out a rows₁ ≡ after_core parting d entry ld rd o
+  pub on_refused : is_ok a ≡ false → rows₁ ≡ entry → out a rows₁ ≡ after_core parting d entry ld rd o
   on_refused t q = rw (← e) (simp (t, q))
 
-  module _ (t : is_done a ≡ true) (w : Leg) (rows₂ : List ℕ) (p : leg_out w rows₂ ≡ leg_on parting rows₁ ld rd) where
-    pub on_leg_refused : (rows₃ : List ℕ) → is_done w.answer ≡ false → rows₃ ≡ entry → out w.answer rows₃ ≡ after_core parting d entry ld rd o
+  module _ (t : is_ok a ≡ true) (w : Leg) (rows₂ : List ℕ) (p : leg_out w rows₂ ≡ leg_on parting rows₁ ld rd) where
+    pub on_leg_refused : (rows₃ : List ℕ) → is_ok w.answer ≡ false → rows₃ ≡ entry → out w.answer rows₃ ≡ after_core parting d entry ld rd o
     on_leg_refused rows₃ b q = rw (← e) (simp (t, ← p, b, q))
 
-    pub on_closed : (x : ℕ) → x ≡ d → is_done w.answer ≡ true → w.l ≢ 0 → out (Done x 0) rows₂ ≡ after_core parting d entry ld rd o
-    on_closed x q b n = rw (← e) (simp (t, ← p, b, ne_eqb w.l 0 n, q))
+    pub on_closed : (x : ℕ) → x ≡ d → is_ok w.answer ≡ true → w.pair.l ≢ 0 → out (done x 0) rows₂ ≡ after_core parting d entry ld rd o
+    on_closed x q b n = rw (← e) (simp (t, ← p, b, ne_eqb w.pair.l 0 n, q))
 
-    pub on_uneven : (rows₃ : List ℕ) → is_done w.answer ≡ true → w.l ≡ 0 → w.r ≢ 0 → rows₃ ≡ entry →
-        out (Refused (AsymmetricalFaces ld rd)) rows₃ ≡ after_core parting d entry ld rd o
-    on_uneven rows₃ b z n q = rw (← e) (simp (t, ← p, b, eq-eqb w.l 0 z, ne_eqb w.r 0 n, q))
+    pub on_uneven : (rows₃ : List ℕ) → is_ok w.answer ≡ true → w.pair.l ≡ 0 → w.pair.r ≢ 0 → rows₃ ≡ entry →
+        out (Err (AsymmetricalFaces ld rd)) rows₃ ≡ after_core parting d entry ld rd o
+    on_uneven rows₃ b z n q = rw (← e) (simp (t, ← p, b, eq-eqb w.pair.l 0 z, ne_eqb w.pair.r 0 n, q))
 
-    pub on_back : is_done w.answer ≡ true → w.l ≡ 0 → w.r ≡ 0 → last_leg d entry (leg_back parting rows₂ ld rd) ≡ after_core parting d entry ld rd o
-    on_back b z n = rw (← e) (simp (t, ← p, b, eq-eqb w.l 0 z, eq-eqb w.r 0 n))
+    pub on_back : is_ok w.answer ≡ true → w.pair.l ≡ 0 → w.pair.r ≡ 0 → last_leg d entry (leg_back parting rows₂ ld rd) ≡ after_core parting d entry ld rd o
+    on_back b z n = rw (← e) (simp (t, ← p, b, eq-eqb w.pair.l 0 z, eq-eqb w.pair.r 0 n))
 
 -- all pairs of the first leg set back, ld and rd among them
 pub on_undone : (parting : Bool) (entry : List ℕ) (ld rd : ℕ) (rows₁ : List ℕ) (w : Leg) (rows₂ : List ℕ) → WellFormed entry → ld < darts entry →
@@ -97,7 +96,7 @@ unfolding three_link_on
 on_link entry ld rd n = ap (λ (o : Out). after_core false 0 entry ld rd o) (sym (step_link ld rd entry ld rd n))
 
 module _ (entry : List ℕ) (ld : ℕ) where
-  pub on_free : beta entry 3 ld ≡ 0 → out (Refused (AlreadyFree 3 ld)) entry ≡ three_unlink_on entry ld
+  pub on_free : beta entry 3 ld ≡ 0 → out (Err (AlreadyFree 3 ld)) entry ≡ three_unlink_on entry ld
   unfolding three_unlink_on
   on_free z = ap (λ (o : Out). after_core true (beta entry 3 ld) entry ld (beta entry 3 ld) o) (unlink_free entry 3 ld z)
 

@@ -6,7 +6,7 @@
 --   back_inside, back_next, undone_none   a turn of the loop that sets back, and its end
 -- Why setting back in the same order is right: a store of 0 commutes with a store of 0, and a store at a dart that is free meets no later pair
 -- of an unlink (`Safe`). Assumes nothing.
-use Prim.Native.Nat.{ℕ, zero, suc, ◌+◌, ◌-◌, ◌<◌, ◌≤◌}
+use Prim.Native.Nat.{ℕ, zero, suc, ◌+◌, ◌<◌, ◌≤◌}
 use native.Mathlib.Omega.{arith}
 use native.Mathlib.Decide.{ℕ_discrete}
 use mathlib.Core.Path.{◌≡◌, refl, sym, ap, ◌∙◌}
@@ -18,14 +18,14 @@ use lib.Seq.{set_comm}
 use borrow.Author.Tests.{eq-eqb, ne_eqb}
 use Rattle.map_betas.specs.Betas.{place, beta, darts}
 use Rattle.map_betas.specs.Maps.{WellFormed, Free}
-use Rattle.map_betas.specs.declared.error.Answer.{Answer}
-use Rattle.map_betas.specs.Answers.{Out, out, is_done, pass}
+use Rattle.map_betas.specs.Answers.{Out, out, nothing, Answer}
 use Rattle.map_betas.proofs.Spared.{pair_spares, next_linked}
 use Rattle.link_walk.specs.Walk.{LegOut, leg_out, leg_at, walk, step_of}
 use Rattle.link_walk.specs.Undo.{undone, Inside}
 use Rattle.link_walk.proofs.Stores.{inside_set, beta_set, clear_comm}
 use Rattle.link_walk.proofs.StepLaws.{Changed, step_done, step_kept, changeable}
 use Rattle.link_walk.proofs.StepLaws.{changed_length, changed_low, changed_l, changed_r, changed_far, changed_back, changed_formed, changed_fewer}
+use Rattle.std.specs.Prelude.{is_ok}
 
 -- the same images by beta 0, 1 and 2
 abbrev pub Alike : List ℕ → List ℕ → Type 0
@@ -40,8 +40,8 @@ Safe true rows d v = beta rows 3 d ≡ 0
 pub record Walked (parting : Bool) (rows : List ℕ) (i j l r k : ℕ) (w : LegOut) : Type 0 where
   pub formed : WellFormed w.rows
   pub long : length w.rows ≡ length rows
-  pub on_left : w.leg.l < darts rows
-  pub on_right : w.leg.r < darts rows
+  pub on_left : w.leg.pair.l < darts rows
+  pub on_right : w.leg.pair.r < darts rows
   pub alike : Alike w.rows rows
   pub more : ℕ
   pub steps : w.leg.steps ≡ k + more
@@ -182,7 +182,7 @@ module _ (parting : Bool) (ld rd i j stop : ℕ) (hi : i < 3) (hj : j < 3) where
 
   -- after a step that left o
   after : (f : ℕ) → Walks f → (rows : List ℕ) (l r k : ℕ) → WellFormed rows → l < darts rows → r < darts rows → l ≢ 0 →
-      (o : Out) → o ≡ step_of parting ld rd rows l r → (b : Bool) → is_done o.answer ≡ b →
+      (o : Out) → o ≡ step_of parting ld rd rows l r → (b : Bool) → is_ok o.answer ≡ b →
       Walked parting rows i j l r k
       (cond b (walk (step_of parting ld rd) f o.rows i j stop (beta o.rows i l) (beta o.rows j r) (suc k)) (leg_out (leg_at o.answer l r k) o.rows))
   after f next rows l r k s hl hr nl o e true t =
@@ -197,15 +197,15 @@ module _ (parting : Bool) (ld rd i j stop : ℕ) (hi : i < 3) (hj : j < 3) where
   unfolding walk
   walks_on f next rows l r k s hl hr =
       by_cases (ℕ_discrete l 0)
-      (λ (e : l ≡ 0). simp (eq-eqb l 0 e) (here parting rows i j l r k pass s hl hr))
+      (λ (e : l ≡ 0). simp (eq-eqb l 0 e) (here parting rows i j l r k nothing s hl hr))
       (λ (nl : l ≢ 0). by_cases (ℕ_discrete l stop)
-      (λ (e : l ≡ stop). simp (eq-eqb l stop e, or-true) (here parting rows i j l r k pass s hl hr))
+      (λ (e : l ≡ stop). simp (eq-eqb l stop e, or-true) (here parting rows i j l r k nothing s hl hr))
       (λ (ns : l ≢ stop). simp (ne_eqb l 0 nl, ne_eqb l stop ns)
-      (after f next rows l r k s hl hr nl (step_of parting ld rd rows l r) refl (is_done (step_of parting ld rd rows l r).answer) refl)))
+      (after f next rows l r k s hl hr nl (step_of parting ld rd rows l r) refl (is_ok (step_of parting ld rd rows l r).answer) refl)))
 
   walks_not : Walks zero
   unfolding walk
-  walks_not rows l r k s hl hr = here parting rows i j l r k pass s hl hr
+  walks_not rows l r k s hl hr = here parting rows i j l r k nothing s hl hr
 
   pub walked : (f : ℕ) → Walks f
   walked zero = walks_not
@@ -213,7 +213,7 @@ module _ (parting : Bool) (ld rd i j stop : ℕ) (hi : i < 3) (hj : j < 3) where
 
 -- a turn of the loop that walks, with the values as the code has them
 pub turn : (parting : Bool) (ld rd : ℕ) (rows : List ℕ) (l r : ℕ) (a : Answer) (rows' : List ℕ) → WellFormed rows → l < darts rows → r < darts rows → l ≢ 0 →
-    out a rows' ≡ step_of parting ld rd rows l r → is_done a ≡ true → WellFormed rows' × (length rows' ≡ length rows)
+    out a rows' ≡ step_of parting ld rd rows l r → is_ok a ≡ true → WellFormed rows' × (length rows' ≡ length rows)
     × (changeable parting rows' < changeable parting rows)
 turn parting ld rd rows l r a rows' s hl hr nl e t =
     let h = step_done rows a rows' ld rd l r parting s nl e t in
@@ -231,12 +231,10 @@ module _ (parting : Bool) (rows : List ℕ) (l r v z : ℕ) (rows₁ rows₂ : L
       small true d hd = hd
       small false d hd = omega arith
 
-  pub back_next : (left i j l' r' : ℕ) → 0 < left → l' ≡ beta rows i l → r' ≡ beta rows j r →
-      undone parting (left - 1) rows₂ i j l' r' ≡ undone parting left rows i j l r
+  pub back_next : (left left' i j l' r' : ℕ) → left ≡ suc left' → l' ≡ beta rows i l → r' ≡ beta rows j r →
+      undone parting left' rows₂ i j l' r' ≡ undone parting left rows i j l r
   unfolding undone
-  back_next left i j l' r' h el er =
-      let q : left ≡ suc (left - 1) = omega arith in
-      rw (e₂, e₁, ev, ez, el, er) (sym (ap (λ (m : ℕ). undone parting m rows i j l r) q))
+  back_next left left' i j l' r' q el er = rw (q, e₂, e₁, ev, ez, el, er)
 
 pub undone_none : (parting : Bool) (left : ℕ) (rows : List ℕ) (i j l r : ℕ) → left ≤ 0 → undone parting left rows i j l r ≡ rows
 unfolding undone

@@ -4,11 +4,10 @@
 --   last_leg, after_leg, after_core   what follows the second leg, the first leg, the core at ld and rd
 --   three_link_on entry ld rd  the 3-link of ld and rd
 --   three_unlink_on entry ld   the 3-unlink of ld and its image, which is answered
-use Rattle.std.specs.Prelude.{ℕ, suc, List, Bool, true, false, cond, eqb, length}
-use Rattle.map_betas.specs.declared.error.Answer.TheVariants.{Done, Refused}
+use Rattle.std.specs.Prelude.{ℕ, suc, List, Bool, true, false, cond, eqb, length, Err, is_ok}
 use Rattle.map_betas.specs.declared.error.Refusal.TheVariants.{AsymmetricalFaces}
 use Rattle.map_betas.specs.Betas.{beta}
-use Rattle.map_betas.specs.Answers.{Out, out, is_done}
+use Rattle.map_betas.specs.Answers.{Out, out, done}
 use Rattle.map_betas.specs.Cores.{link_core, unlink_core}
 use Rattle.link_walk.specs.Walk.{step_of, LegOut, walk}
 
@@ -22,19 +21,19 @@ leg_back parting rows ld rd = walk (step_of parting ld rd) (suc (length rows)) r
 
 -- the leg back is the last: wherever r stands at its end, it is done
 abbrev pub last_leg : ℕ → List ℕ → LegOut → Out
-last_leg d entry w = cond (is_done w.leg.answer) (out (Done d 0) w.rows) (out w.leg.answer entry)
+last_leg d entry w = cond (is_ok w.leg.answer) (out (done d 0) w.rows) (out w.leg.answer entry)
 
 -- once the leg forward is over: a closed face is done, wherever r stands; an open one asks r to be null too, and goes back
 abbrev pub after_leg : Bool → ℕ → List ℕ → ℕ → ℕ → LegOut → Out
 after_leg parting d entry ld rd w =
-    cond (is_done w.leg.answer)
-    (cond (eqb w.leg.l 0)
-    (cond (eqb w.leg.r 0) (last_leg d entry (leg_back parting w.rows ld rd)) (out (Refused (AsymmetricalFaces ld rd)) entry))
-    (out (Done d 0) w.rows))
+    cond (is_ok w.leg.answer)
+    (cond (eqb w.leg.pair.l 0)
+    (cond (eqb w.leg.pair.r 0) (last_leg d entry (leg_back parting w.rows ld rd)) (out (Err (AsymmetricalFaces ld rd)) entry))
+    (out (done d 0) w.rows))
     (out w.leg.answer entry)
 
 abbrev pub after_core : Bool → ℕ → List ℕ → ℕ → ℕ → Out → Out
-after_core parting d entry ld rd o = cond (is_done o.answer) (after_leg parting d entry ld rd (leg_on parting o.rows ld rd)) (out o.answer entry)
+after_core parting d entry ld rd o = cond (is_ok o.answer) (after_leg parting d entry ld rd (leg_on parting o.rows ld rd)) (out o.answer entry)
 
 -- scope: 3-link
 unfoldable pub three_link_on : List ℕ → ℕ → ℕ → Out

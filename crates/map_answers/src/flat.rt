@@ -2,14 +2,13 @@
 ghost use Rattle.std.specs.Prelude.{◌≡◌};
 ghost use Rattle.map_betas.specs.Flat.{flat, flat_of};
 
-use crate::told::tell;
-use map_betas::error::Answer;
+use map_betas::error::{Answer, Told};
 
 // Writes the values of an answer, and gives back its number.
 pub fn hand_on(a: Answer, values: &mut [u64; 3]) -> u32
     ensures { flat result values.new ≡ flat_of a }
 {
-    let t = tell(a);
+    let t = Told::from(a);
     *values = [t.first, t.second, t.third];
     t.number
 }

@@ -1,5 +1,4 @@
-// An answer as numbers, and as it crosses to C.
+// An answer as it crosses to C.
 #![tactic(auto)]
 
 pub mod flat;
-pub mod told;

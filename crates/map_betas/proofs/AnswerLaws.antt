@@ -1,58 +1,56 @@
--- Tests one after the other: the code returns the first refusal (`stops`) or goes on (`goes_on`); both passed where the whole did (`first_done`,
--- `then_done`). Outcomes that are the same: one is not done and the other refused
--- (`not_both`), and they have the same rows (`rows_same`). Any call behind its tests: `behind_refused`, `behind_done`, `refused_leaves`; what it leaves,
--- from its answer and its loans: `outcome_is`; as it crosses to C: `crosses`. Assumes nothing.
+-- Tests one after the other: the code returns the first refusal (`stops`) or goes on (`goes_on`); both passed where the whole did (`first_done`, `then_done`). Outcomes that are the same: one is not done and the other
+-- refused (`not_both`), and they have the same rows (`rows_same`). A call behind its tests: `behind_refused`, `behind_done`, `refused_leaves`; what it leaves, from its answer and its
+-- loans: `outcome_is`; as it crosses to C: `crosses`. Assumes nothing.
 use Prim.Native.Nat.{ℕ}
 use mathlib.Core.Path.{◌≡◌, refl, sym, ap, ◌∙◌}
 use mathlib.Core.List.{List}
 use mathlib.Core.Bool.{true, false, true≢false}
-use Rattle.map_betas.specs.declared.error.Answer.{Answer}
-use Rattle.map_betas.specs.declared.error.Answer.TheVariants.{Done, Refused}
-use Rattle.map_betas.specs.Answers.{is_done, and_then, Out, Outcome, outcome, behind}
+use Rattle.map_betas.specs.Answers.{Out, Outcome, outcome, behind, Answer, Test}
 use Rattle.map_betas.specs.Flat.{flat, flat_of, crossing, crossed}
+use Rattle.std.specs.Prelude.{Result, Err, Ok, is_ok, IsErrAnd, ⊤}
+use Rattle.std.proofs.lemmas.Result.{err_from_is_err_and}
+use Rattle.map_betas.specs.declared.error.Refusal.{Refusal}
+use Rattle.std.specs.Result.{result_and}
 
--- h is what the code has, a what the definition says
-pub stops : (h a b : Answer) → h ≡ a → is_done h ≡ false → h ≡ and_then a b
-stops h a b e t = e ∙ go a (ap is_done (sym e) ∙ t)
-  where
-    go : (a' : Answer) → is_done a' ≡ false → a' ≡ and_then a' b
-    go (Done d k) t' = absurd (true≢false t')
-    go (Refused w) t' = refl
+-- h is what the code has, a what the definition says; r is what a `?` returns
+module _ {A B E : Type 0} {h a : Result A E} (e : h ≡ a) where
+  pub stops : {w : E} (r b : Result B E) → h ≡ Err w → IsErrAnd r (λ x. x ≡ w) → r ≡ result_and a b
+  stops {w} r b t q =
+      let p = err_from_is_err_and {Q = λ x. x ≡ w} r q in
+      rw (p.1, p.2, sym e, t) refl
 
-pub goes_on : (h a b : Answer) → h ≡ a → is_done h ≡ true → b ≡ and_then a b
-goes_on h a b e t = go a (ap is_done (sym e) ∙ t)
-  where
-    go : (a' : Answer) → is_done a' ≡ true → b ≡ and_then a' b
-    go (Done d k) t' = refl
-    go (Refused w) t' = absurd (true≢false (sym t'))
+  pub goes_on : {x : A} (b : Result B E) → h ≡ Ok x → b ≡ result_and a b
+  goes_on b t = rw (sym e, t) refl
 
-pub first_done : (a b : Answer) → is_done (and_then a b) ≡ true → is_done a ≡ true
-first_done (Done d k) b t = refl
-first_done (Refused w) b t = t
+pub first_done : {A B E : Type 0} (a : Result A E) (b : Result B E) → is_ok (result_and a b) ≡ true → is_ok a ≡ true
+first_done (Ok x) b t = refl
+first_done (Err w) b t = t
 
-pub then_done : (a b : Answer) → is_done (and_then a b) ≡ true → is_done b ≡ true
-then_done (Done d k) b t = t
-then_done (Refused w) b t = absurd (true≢false (sym t))
+pub then_done : {A B E : Type 0} (a : Result A E) (b : Result B E) → is_ok (result_and a b) ≡ true → is_ok b ≡ true
+then_done (Ok x) b t = t
+then_done (Err w) b t = absurd (true≢false (sym t))
 
-pub not_both : (o p : Out) → o ≡ p → is_done p.answer ≡ false → is_done o.answer ≡ true → ⊥
-not_both o p e f t = true≢false (sym t ∙ ap (λ (x : Out). is_done x.answer) e ∙ f)
+pub not_both : (o p : Out) → o ≡ p → is_ok p.answer ≡ false → is_ok o.answer ≡ true → ⊥
+not_both o p e f t = true≢false (sym t ∙ ap (λ (x : Out). is_ok x.answer) e ∙ f)
 
 pub rows_same : (o p : Out) → o ≡ p → o.rows ≡ p.rows
 rows_same o p e = ap (λ (x : Out). x.rows) e
 
--- g is what the code has, h what the definition says
-module _ {L : Type 0} (g h : Answer) (e : g ≡ h) (loans : L) (o : Outcome L) where
-  pub behind_refused : is_done g ≡ false → outcome g loans ≡ behind h loans o
-  behind_refused t = simp (← e, t)
+-- g is what the code has, h what the definition says; r is what a `?` returns
+module _ {L : Type 0} {g h : Test} (e : g ≡ h) (loans : L) (o : Outcome L) where
+  pub behind_refused : {w : Refusal} (r : Answer) → g ≡ Err w → IsErrAnd r (λ x. x ≡ w) → outcome r loans ≡ behind h loans o
+  behind_refused {w} r t q =
+      let p = err_from_is_err_and {Q = λ x. x ≡ w} r q in
+      rw (p.1, p.2, sym e, t) refl
 
-  pub behind_done : is_done g ≡ true → o ≡ behind h loans o
-  behind_done t = simp (← e, t)
+  pub behind_done : {x : ⊤} → g ≡ Ok x → o ≡ behind h loans o
+  behind_done t = rw (sym e, t) refl
 
 -- a call that is never refused behind its tests leaves every loan where it is refused
-pub refused_leaves : {L : Type 0} (g : Answer) (loans : L) (o : Outcome L) → is_done o.answer ≡ true → is_done (behind g loans o).answer ≡ false →
+pub refused_leaves : {L : Type 0} (g : Test) (loans : L) (o : Outcome L) → is_ok o.answer ≡ true → is_ok (behind g loans o).answer ≡ false →
     (behind g loans o).loans ≡ loans
-refused_leaves {L} (Done d k) loans o t f = absurd (true≢false (sym t ∙ f))
-refused_leaves {L} (Refused w) loans o t f = refl
+refused_leaves {L} (Ok x) loans o t f = absurd (true≢false (sym t ∙ f))
+refused_leaves {L} (Err w) loans o t f = refl
 
 pub outcome_is : {L : Type 0} {a b : Answer} {l m : L} → a ≡ b → l ≡ m → outcome a l ≡ outcome b m
 outcome_is e f = λ t. record { answer = e t; loans = f t }

@@ -1,15 +1,14 @@
 -- The beta that leads back: where it stands (`opp_low`, `opp_high`, `opp_lt`), that it leads back itself (`opp_opp`), and that a beta 2 or 3 is no
--- beta of a dart that it does not fix (`no_self`). The larger of two images: which it is (`larger_right`, `larger_left`), and that it is at least
--- both (`larger_both`). Assumes nothing.
+-- beta of a dart that it does not fix (`no_self`). Assumes nothing.
 use Prim.Native.Nat.{ℕ, zero, suc, ◌-◌, ◌<◌, ◌≤◌}
 use native.Mathlib.Omega.{arith}
 use native.Mathlib.Decide.{dec_lt}
-use mathlib.Core.Path.{◌≡◌, refl, sym, ◌∙◌}
+use mathlib.Core.Path.{◌≡◌, refl}
 use mathlib.Core.Logic.{◌≢◌, by_cases}
 use mathlib.Core.Bool.{false, ◌&&◌, and-false}
 use lib.Dec.{leb, eqb}
-use borrow.Author.Tests.{ne_eqb, le-leb, lt-leb}
-use Rattle.map_betas.specs.Betas.{opp, larger}
+use borrow.Author.Tests.{ne_eqb, lt-leb}
+use Rattle.map_betas.specs.Betas.{opp}
 
 pub opp_low : (i : ℕ) → i < 2 → opp i ≡ 1 - i
 opp_low zero h = refl
@@ -36,16 +35,3 @@ no_self i x d h =
     by_cases (dec_lt i 2)
     (λ (l : i < 2). simp (lt-leb 2 i l))
     (λ (l : i < 2 → ⊥). simp (ne_eqb x d (h (omega arith)), and-false))
-
-module _ (a b : ℕ) where
-  pub larger_right : a ≤ b → b ≡ larger a b
-  larger_right h = simp (le-leb a b h)
-
-  pub larger_left : b < a → a ≡ larger a b
-  larger_left h = simp (lt-leb a b h)
-
-  pub larger_both : (r : ℕ) → r ≡ larger a b → (a ≤ r) × (b ≤ r)
-  larger_both r e =
-      by_cases (dec_lt b a)
-      (λ (h : b < a). let f : r ≡ a = e ∙ sym (larger_left h) in (omega arith, omega arith))
-      (λ (h : b < a → ⊥). let f : r ≡ b = e ∙ sym (larger_right (omega arith)) in (omega arith, omega arith))

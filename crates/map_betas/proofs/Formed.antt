@@ -14,13 +14,13 @@ use mathlib.Core.Bool.{Bool, true, false, cond, not, true≢false}
 use lib.ListN.{length, get_or-eq_default}
 use lib.Dec.{ltb}
 use borrow.Author.Tests.{eq-eqb, eqb-true, not-false, ltb-false, le-ltb}
-use Rattle.map_betas.specs.declared.error.Answer.TheVariants.{Refused}
 use Rattle.map_betas.specs.declared.error.Refusal.TheVariants.{BadSize}
 use Rattle.map_betas.specs.Betas.{place, beta, darts, opp}
-use Rattle.map_betas.specs.Answers.{pass, is_done}
+use Rattle.map_betas.specs.Answers.{pass}
 use Rattle.map_betas.specs.Maps.{Sized, bad_size, size_test, breaks, breach_at, bound, unused, first_breach, map_test, WellFormed, Free, Map}
 use Rattle.map_betas.proofs.FreeLaws.{bound_used, bound_free, not_bound, beyond_free}
 use Rattle.map_betas.proofs.MapLaws.{sized, breaks_far, breaks_null, breaks_dart0, breaks_fixed, breaks_back, breach_clean, breach_none}
+use Rattle.std.specs.Prelude.{Err, is_ok}
 
 -- no image breaks a rule
 abbrev Clean : List ℕ → Type 0
@@ -31,14 +31,14 @@ abbrev pub Passes : List ℕ → List ℕ → ℕ → Type 0
 Passes rows flags d = (4 ≤ breach_at rows d) × (bound rows flags d ≡ false)
 
 -- a search that finds nothing passed each dart
-search_clean : (f : ℕ) (rows flags : List ℕ) (d : ℕ) → is_done (first_breach f rows flags d) ≡ true → (e : ℕ) → d ≤ e → e < d + f → Passes rows flags e
+search_clean : (f : ℕ) (rows flags : List ℕ) (d : ℕ) → is_ok (first_breach f rows flags d) ≡ true → (e : ℕ) → d ≤ e → e < d + f → Passes rows flags e
 unfolding first_breach
 search_clean zero rows flags d t e l h = absurd (omega arith)
 search_clean (suc f) rows flags d t e l h =
     go (ltb (breach_at rows d) 4) refl (bound rows flags d) refl (λ r a. search_clean f rows flags (d + 1) r e a (omega arith))
   where
     go : (b : Bool) → ltb (breach_at rows d) 4 ≡ b → (c : Bool) → bound rows flags d ≡ c →
-        (is_done (first_breach f rows flags (d + 1)) ≡ true → d + 1 ≤ e → Passes rows flags e) → Passes rows flags e
+        (is_ok (first_breach f rows flags (d + 1)) ≡ true → d + 1 ≤ e → Passes rows flags e) → Passes rows flags e
     go true u c v next = absurd (true≢false (sym (simp u at t)))
     go false u true v next = absurd (true≢false (sym (simp (u, v) at t)))
     go false u false v next =
@@ -54,11 +54,11 @@ clean_search (suc f) rows flags d h =
 -- the size and the rules, from what the tests found, and back
 
 module _ (rows : List ℕ) (s : Sized rows) where
-  test_clean : (flags : List ℕ) → is_done (map_test rows flags) ≡ true → Clean rows
+  test_clean : (flags : List ℕ) → is_ok (map_test rows flags) ≡ true → Clean rows
   unfolding map_test
   test_clean flags t i d hi hd = breach_clean rows d (search_clean (darts rows) rows flags 0 t d (omega arith) (omega arith)).0 i hi
 
-  test_free : (flags : List ℕ) → is_done (map_test rows flags) ≡ true → (d : ℕ) → unused flags d ≡ true → Free rows d
+  test_free : (flags : List ℕ) → is_ok (map_test rows flags) ≡ true → (d : ℕ) → unused flags d ≡ true → Free rows d
   unfolding map_test
   test_free flags t d u =
       by_cases (dec_lt d (darts rows))
@@ -129,15 +129,15 @@ module _ (rows : List ℕ) (s : Sized rows) where
       let z : d ≢ 0 = λ e. n (rw e (w.null i hi)) in
       sym (breaks_back rows i d _ _ _ refl refl refl (w.below i d) n z (λ l. w.moved i d l hi n)) ∙ ap not (eq-eqb _ _ (w.back i d hi n)))
 
-pub size_done : (rows : List ℕ) → is_done (size_test rows) ≡ true → Sized rows
+pub size_done : (rows : List ℕ) → is_ok (size_test rows) ≡ true → Sized rows
 size_done rows = go (bad_size (length rows)) refl
   where
-    go : (b : Bool) → bad_size (length rows) ≡ b → is_done (cond b (Refused (BadSize (length rows))) pass) ≡ true → Sized rows
+    go : (b : Bool) → bad_size (length rows) ≡ b → is_ok (cond b (Err (BadSize (length rows))) pass) ≡ true → Sized rows
     go true t e = absurd (true≢false (sym e))
     go false t e = sized rows t
 
 -- both tests have passed
-pub map_done : (rows flags : List ℕ) → Sized rows → darts rows ≤ length flags → is_done (map_test rows flags) ≡ true → Map rows flags
+pub map_done : (rows flags : List ℕ) → Sized rows → darts rows ≤ length flags → is_ok (map_test rows flags) ≡ true → Map rows flags
 map_done rows flags s l t = record { formed = formed rows s (test_clean rows s flags t); flagged = l; free = test_free rows s flags t }
 
 -- the map test passes on a map

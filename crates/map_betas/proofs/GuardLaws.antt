@@ -10,44 +10,45 @@ use mathlib.Core.Bool.{Bool, true, false, cond, ◌&&◌, ◌||◌, true≢false
 use lib.Dec.{ltb, leb}
 use lib.ListN.{length}
 use borrow.Author.Tests.{lt-ltb, le-ltb, le-leb, lt-leb, ltb-false, leb-false}
-use Rattle.map_betas.specs.declared.error.Answer.TheVariants.{Refused}
+use Rattle.map_betas.specs.declared.error.Loan.TheVariants.{Marks, Queue, Output, Flags, Vertices, Coordinates}
 use Rattle.map_betas.specs.declared.error.Refusal.TheVariants.{ShortLoan, BadDart}
 use Rattle.map_betas.specs.declared.loans.Loans.{Loans}
 use Rattle.map_betas.specs.Betas.{darts}
-use Rattle.map_betas.specs.Answers.{pass, is_done}
+use Rattle.map_betas.specs.Answers.{pass}
 use Rattle.map_betas.specs.Maps.{size_test, unused, Map}
 use Rattle.map_betas.specs.Guards.{loan_test, no_dart, dart_test, map_guard, guard_of, Lent, Dart, Ready}
 use Rattle.map_betas.proofs.AnswerLaws.{first_done, then_done}
 use Rattle.map_betas.proofs.Formed.{size_done, map_done}
+use Rattle.std.specs.Prelude.{Err, is_ok}
 
 module _ (n flags : ℕ) (loans : Loans) where
-  pub loan_1 : loans.marks < n → Refused (ShortLoan 1) ≡ loan_test n flags loans
+  pub loan_1 : loans.marks < n → Err (ShortLoan Marks) ≡ loan_test n flags loans
   unfolding loan_test
   loan_1 h = simp (lt-ltb loans.marks n h)
 
   module _ (a : n ≤ loans.marks) where
-    pub loan_2 : loans.queue < n → Refused (ShortLoan 2) ≡ loan_test n flags loans
+    pub loan_2 : loans.queue < n → Err (ShortLoan Queue) ≡ loan_test n flags loans
     unfolding loan_test
     loan_2 h = simp (le-ltb loans.marks n a, lt-ltb loans.queue n h)
 
     module _ (b : n ≤ loans.queue) where
-      pub loan_3 : loans.output < n → Refused (ShortLoan 3) ≡ loan_test n flags loans
+      pub loan_3 : loans.output < n → Err (ShortLoan Output) ≡ loan_test n flags loans
       unfolding loan_test
       loan_3 h = simp (le-ltb loans.marks n a, le-ltb loans.queue n b, lt-ltb loans.output n h)
 
       module _ (o : n ≤ loans.output) where
-        pub loan_4 : flags < n → Refused (ShortLoan 4) ≡ loan_test n flags loans
+        pub loan_4 : flags < n → Err (ShortLoan Flags) ≡ loan_test n flags loans
         unfolding loan_test
         loan_4 h = simp (le-ltb loans.marks n a, le-ltb loans.queue n b, le-ltb loans.output n o, lt-ltb flags n h)
 
         module _ (f : n ≤ flags) where
-          pub loan_5 : loans.vertices < n → Refused (ShortLoan 5) ≡ loan_test n flags loans
+          pub loan_5 : loans.vertices < n → Err (ShortLoan Vertices) ≡ loan_test n flags loans
           unfolding loan_test
           loan_5 h =
               simp (le-ltb loans.marks n a, le-ltb loans.queue n b, le-ltb loans.output n o, le-ltb flags n f, lt-ltb loans.vertices n h)
 
           module _ (p : n ≤ loans.vertices) where
-            pub loan_6 : loans.coordinates < 3 * n → Refused (ShortLoan 6) ≡ loan_test n flags loans
+            pub loan_6 : loans.coordinates < 3 * n → Err (ShortLoan Coordinates) ≡ loan_test n flags loans
             unfolding loan_test
             loan_6 h =
                 simp (
@@ -71,7 +72,7 @@ module _ (n flags : ℕ) (loans : Loans) where
                   le-ltb loans.coordinates (3 * n) h,
                 )
 
-  pub lent : is_done (loan_test n flags loans) ≡ true → (n ≤ flags) × Lent n loans
+  pub lent : is_ok (loan_test n flags loans) ≡ true → (n ≤ flags) × Lent n loans
   unfolding loan_test
   lent =
       go (ltb loans.marks n) refl (ltb loans.queue n) refl (ltb loans.output n) refl (ltb flags n) refl (ltb loans.vertices n) refl
@@ -79,11 +80,11 @@ module _ (n flags : ℕ) (loans : Loans) where
     where
       go : (a : Bool) → ltb loans.marks n ≡ a → (b : Bool) → ltb loans.queue n ≡ b → (o : Bool) → ltb loans.output n ≡ o →
           (f : Bool) → ltb flags n ≡ f → (p : Bool) → ltb loans.vertices n ≡ p → (q : Bool) → ltb loans.coordinates (3 * n) ≡ q →
-          is_done
-          (cond a (Refused (ShortLoan 1))
-          (cond b (Refused (ShortLoan 2))
-          (cond o (Refused (ShortLoan 3))
-          (cond f (Refused (ShortLoan 4)) (cond p (Refused (ShortLoan 5)) (cond q (Refused (ShortLoan 6)) pass)))))) ≡ true → (n ≤ flags) × Lent n loans
+          is_ok
+          (cond a (Err (ShortLoan Marks))
+          (cond b (Err (ShortLoan Queue))
+          (cond o (Err (ShortLoan Output))
+          (cond f (Err (ShortLoan Flags)) (cond p (Err (ShortLoan Vertices)) (cond q (Err (ShortLoan Coordinates)) pass)))))) ≡ true → (n ≤ flags) × Lent n loans
       go true ea b eb o eo f ef p ep q eq t = absurd (true≢false (sym t))
       go false ea true eb o eo f ef p ep q eq t = absurd (true≢false (sym t))
       go false ea false eb true eo f ef p ep q eq t = absurd (true≢false (sym t))
@@ -138,10 +139,10 @@ module _ (n : ℕ) (flags : List ℕ) (least d : ℕ) where
       )
 
 module _ (n : ℕ) (flags : List ℕ) (least a b : ℕ) where
-  pub dart_first : no_dart n flags least a ≡ true → Refused (BadDart 1) ≡ dart_test n flags least a b
+  pub dart_first : no_dart n flags least a ≡ true → Err (BadDart 1) ≡ dart_test n flags least a b
   dart_first x = simp x
 
-  pub dart_second : no_dart n flags least a ≡ false → no_dart n flags least b ≡ true → Refused (BadDart 2) ≡ dart_test n flags least a b
+  pub dart_second : no_dart n flags least a ≡ false → no_dart n flags least b ≡ true → Err (BadDart 2) ≡ dart_test n flags least a b
   dart_second x y = simp (x, y)
 
   pub dart_both : no_dart n flags least a ≡ false → no_dart n flags least b ≡ false → pass ≡ dart_test n flags least a b
@@ -150,18 +151,18 @@ module _ (n : ℕ) (flags : List ℕ) (least a b : ℕ) where
   abbrev Takes : ℕ → Type 0
   Takes d = Dart n least d × (1 ≤ least → unused flags d ≡ false)
 
-  pub are_darts : is_done (dart_test n flags least a b) ≡ true → Takes a × Takes b
+  pub are_darts : is_ok (dart_test n flags least a b) ≡ true → Takes a × Takes b
   are_darts = go (no_dart n flags least a) refl (no_dart n flags least b) refl
     where
       go : (x : Bool) → no_dart n flags least a ≡ x → (y : Bool) → no_dart n flags least b ≡ y →
-          is_done (cond x (Refused (BadDart 1)) (cond y (Refused (BadDart 2)) pass)) ≡ true → Takes a × Takes b
+          is_ok (cond x (Err (BadDart 1)) (cond y (Err (BadDart 2)) pass)) ≡ true → Takes a × Takes b
       go true ex y ey t = absurd (true≢false (sym t))
       go false ex true ey t = absurd (true≢false (sym t))
       go false ex false ey t = (is_dart n flags least a ex, is_dart n flags least b ey)
 
 -- the whole
 
-pub mapped : (rows flags : List ℕ) (loans : Loans) → is_done (map_guard rows flags loans) ≡ true → Map rows flags × Lent (darts rows) loans
+pub mapped : (rows flags : List ℕ) (loans : Loans) → is_ok (map_guard rows flags loans) ≡ true → Map rows flags × Lent (darts rows) loans
 unfolding map_guard
 mapped rows flags loans t =
     let n : ℕ = darts rows in
@@ -169,7 +170,7 @@ mapped rows flags loans t =
     let l = lent n (length flags) loans (first_done (loan_test n (length flags) loans) _ t₁) in
     (map_done rows flags (size_done rows (first_done (size_test rows) _ t)) l.0 (then_done (loan_test n (length flags) loans) _ t₁), l.1)
 
-pub ready : (rows flags : List ℕ) (loans : Loans) (least a b : ℕ) → is_done (guard_of rows flags loans least a b) ≡ true → Ready rows flags loans least a b
+pub ready : (rows flags : List ℕ) (loans : Loans) (least a b : ℕ) → is_ok (guard_of rows flags loans least a b) ≡ true → Ready rows flags loans least a b
 unfolding guard_of
 ready rows flags loans least a b t =
     let m = mapped rows flags loans (first_done (map_guard rows flags loans) _ t) in

@@ -16,17 +16,18 @@ use mathlib.Core.Bool.{Bool, true, false, cond}
 use lib.Dec.{ltb}
 use lib.ListN.{length}
 use borrow.Author.Tests.{ltb-true, ltb-false}
-use Rattle.map_betas.specs.declared.error.Answer.{Answer}
-use Rattle.map_betas.specs.declared.error.Answer.TheVariants.{Refused}
 use Rattle.map_betas.specs.declared.error.Refusal.TheVariants.{NotAMap}
 use Rattle.map_betas.specs.declared.loans.Loans.{Loans}
 use Rattle.map_betas.specs.Betas.{darts}
-use Rattle.map_betas.specs.Answers.{pass, is_done, and_then, tell_of}
+use Rattle.map_betas.specs.Answers.{pass, tell_of, Test, nothing}
 use Rattle.map_betas.specs.Maps.{WellFormed, Map, size_test, breaks, breach_at, bound, first_breach, map_test}
 use Rattle.map_betas.specs.Guards.{no_loans, loan_test, dart_test, map_guard, guard_of, check_map, Lent, Ready}
+use Rattle.map_betas.proofs.AnswerLaws.{first_done}
 use Rattle.map_betas.proofs.MapLaws.{size_good, breach_clean}
 use Rattle.map_betas.proofs.Formed.{Passes, map_passes}
 use Rattle.map_betas.proofs.GuardLaws.{loan_none, dart_good, dart_both, mapped, ready}
+use Rattle.std.specs.Prelude.{Err, is_ok}
+use Rattle.std.specs.Result.{result_and}
 
 -- ---- the guard
 
@@ -38,24 +39,27 @@ on_map_passes rows flags loans m l =
     let long : loan_test (darts rows) (length flags) loans ≡ pass =
     sym (loan_none (darts rows) (length flags) loans l.marks l.queue l.output m.flagged l.vertices l.coordinates) in
     let map : map_test rows flags ≡ pass = map_passes rows flags m in
-    λ s. and_then (size s) (and_then (long s) (map s))
+    λ s. result_and (size s) (result_and (long s) (map s))
 
 -- so that the whole guard is the test of the darts there
 pub on_map : (rows flags : List ℕ) (loans : Loans) (least a b : ℕ) → Map rows flags → Lent (darts rows) loans →
     guard_of rows flags loans least a b ≡ dart_test (darts rows) flags least a b
 unfolding guard_of
-on_map rows flags loans least a b m l = ap (λ (g : Answer). and_then g (dart_test (darts rows) flags least a b)) (on_map_passes rows flags loans m l)
+on_map rows flags loans least a b m l = ap (λ (g : Test). result_and g (dart_test (darts rows) flags least a b)) (on_map_passes rows flags loans m l)
 
 pub no_loans_lent : (rows : List ℕ) → WellFormed rows → Lent (darts rows) no_loans
 no_loans_lent rows w =
     let few = w.sized.few in
     record { marks = omega arith; queue = omega arith; output = omega arith; vertices = omega arith; coordinates = omega arith }
 
-pub map_iff : (rows flags : List ℕ) → (check_map rows flags ≡ pass) ↔ Map rows flags
-map_iff rows flags = ((λ e. (mapped rows flags no_loans (ap is_done e)).0), (λ m. on_map_passes rows flags no_loans m (no_loans_lent rows m.formed)))
+pub map_iff : (rows flags : List ℕ) → (check_map rows flags ≡ nothing) ↔ Map rows flags
+map_iff rows flags = (
+  (λ e. (mapped rows flags no_loans (first_done (map_guard rows flags no_loans) nothing (ap is_ok e))).0),
+  (λ m. ap (λ (g : Test). result_and g nothing) (on_map_passes rows flags no_loans m (no_loans_lent rows m.formed))),
+)
 
 pub guard_iff : (rows flags : List ℕ) (loans : Loans) (least a b : ℕ) → (guard_of rows flags loans least a b ≡ pass) ↔ Ready rows flags loans least a b
-guard_iff rows flags loans least a b = ((λ e. ready rows flags loans least a b (ap is_done e)), passes)
+guard_iff rows flags loans least a b = ((λ e. ready rows flags loans least a b (ap is_ok e)), passes)
   where
     passes : Ready rows flags loans least a b → guard_of rows flags loans least a b ≡ pass
     passes r =
@@ -110,26 +114,26 @@ abbrev Finds : List ℕ → List ℕ → ℕ → ℕ → ℕ → ℕ → Type 0
 Finds rows flags f d i x = (d ≤ x) × (x < d + f) × Stops rows flags i x × ((e : ℕ) → d ≤ e → e < x → Passes rows flags e)
 
 -- a search that refuses has passed every dart before
-found : (f : ℕ) (rows flags : List ℕ) (d i x : ℕ) → first_breach f rows flags d ≡ Refused (NotAMap i x) → Finds rows flags f d i x
+found : (f : ℕ) (rows flags : List ℕ) (d i x : ℕ) → first_breach f rows flags d ≡ Err (NotAMap i x) → Finds rows flags f d i x
 unfolding first_breach
 found zero rows flags d i x e =
-    let k : ◌≡◌ {A = ℕ} 0 3 = ap (λ (a : Answer). (tell_of a).number) e in
+    let k : ◌≡◌ {A = ℕ} 0 3 = ap (λ (a : Test). (tell_of (result_and a nothing)).number) e in
     absurd (omega arith)
 found (suc f) rows flags d i x e =
     go (ltb (breach_at rows d) 4) refl (bound rows flags d) refl (found f rows flags (d + 1) i x) e
   where
     go : (b : Bool) → ltb (breach_at rows d) 4 ≡ b → (c : Bool) → bound rows flags d ≡ c →
-        (first_breach f rows flags (d + 1) ≡ Refused (NotAMap i x) → Finds rows flags f (d + 1) i x) →
-        cond b (Refused (NotAMap (breach_at rows d) d)) (cond c (Refused (NotAMap 4 d)) (first_breach f rows flags (d + 1))) ≡ Refused (NotAMap i x) →
+        (first_breach f rows flags (d + 1) ≡ Err (NotAMap i x) → Finds rows flags f (d + 1) i x) →
+        cond b (Err (NotAMap (breach_at rows d) d)) (cond c (Err (NotAMap 4 d)) (first_breach f rows flags (d + 1))) ≡ Err (NotAMap i x) →
         Finds rows flags (suc f) d i x
     go true t c u next q =
-        let p : breach_at rows d ≡ i = ap (λ (a : Answer). (tell_of a).first) q in
-        let s : d ≡ x = ap (λ (a : Answer). (tell_of a).second) q in
+        let p : breach_at rows d ≡ i = ap (λ (a : Test). (tell_of (result_and a nothing)).first) q in
+        let s : d ≡ x = ap (λ (a : Test). (tell_of (result_and a nothing)).second) q in
         let h : breach_at rows d < 4 = ltb-true (breach_at rows d) 4 t in
         (omega arith, omega arith, inl (ap (breach_at rows) (sym s) ∙ p, omega arith), λ y a b. absurd (omega arith))
     go false t true u next q =
-        let p : 4 ≡ i = ap (λ (a : Answer). (tell_of a).first) q in
-        let s : d ≡ x = ap (λ (a : Answer). (tell_of a).second) q in
+        let p : 4 ≡ i = ap (λ (a : Test). (tell_of (result_and a nothing)).first) q in
+        let s : d ≡ x = ap (λ (a : Test). (tell_of (result_and a nothing)).second) q in
         let h : 4 ≤ breach_at rows d = ltb-false (breach_at rows d) 4 t in
         let g : 4 ≤ breach_at rows x = subst (λ (y : ℕ). 4 ≤ breach_at rows y) s h in
         let v : bound rows flags x ≡ true = subst (λ (y : ℕ). bound rows flags y ≡ true) s u in
@@ -149,7 +153,7 @@ found (suc f) rows flags d i x e =
 
 -- Refusal 3 says the least dart that breaks a rule, and of that dart the least beta whose image does, or 4 where all its images are right and it is
 -- unused with one of them not null.
-pub first_break : (rows flags : List ℕ) (i d : ℕ) → map_test rows flags ≡ Refused (NotAMap i d) →
+pub first_break : (rows flags : List ℕ) (i d : ℕ) → map_test rows flags ≡ Err (NotAMap i d) →
     (d < darts rows)
     × (((i < 4) × (breaks rows i d ≡ true)) ⊎ ((i ≡ 4) × (bound rows flags d ≡ true)))
     × ((j e : ℕ) → j < 4 → (e < d) ⊎ ((e ≡ d) × (j < i)) → breaks rows j e ≡ false)

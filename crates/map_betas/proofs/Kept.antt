@@ -14,9 +14,8 @@ use mathlib.Core.Path.{◌≡◌, refl, sym, ap, ◌∙◌}
 use mathlib.Core.Logic.{◌≢◌, by_cases}
 use mathlib.Core.List.{List}
 use mathlib.Core.Bool.{true, false}
-use Rattle.map_betas.specs.declared.error.Answer.TheVariants.{Done}
 use Rattle.map_betas.specs.Betas.{place, beta, darts, opp}
-use Rattle.map_betas.specs.Answers.{out, pass, is_done}
+use Rattle.map_betas.specs.Answers.{out, nothing, done}
 use Rattle.map_betas.specs.Maps.{WellFormed}
 use Rattle.map_betas.specs.Guards.{Dart}
 use Rattle.map_betas.specs.Cores.{link_core, unlink_core}
@@ -24,6 +23,7 @@ use Rattle.map_betas.proofs.BetaLaws.{opp_lt}
 use Rattle.map_betas.proofs.AnswerLaws.{not_both, rows_same}
 use Rattle.map_betas.proofs.CoreLaws.{link_base, link_image, link_self, link_done, unlink_free, unlink_done}
 use Rattle.map_betas.proofs.Stores.{paired, PairChanged, pair_l, pair_r, pair_others, pair_formed, pair_back}
+use Rattle.std.specs.Prelude.{is_ok}
 
 -- the images by beta i of l and by the beta back of r are a and b, and every other image is as it was
 pub record TwoImages (rows : List ℕ) (i l r a b : ℕ) (rows' : List ℕ) : Type 0 where
@@ -31,7 +31,7 @@ pub record TwoImages (rows : List ℕ) (i l r a b : ℕ) (rows' : List ℕ) : Ty
   pub right : beta rows' (opp i) r ≡ b
   pub others : (k d : ℕ) → place k d ≢ place i l → place k d ≢ place (opp i) r → beta rows' k d ≡ beta rows k d
 
-pub link_refused : (rows : List ℕ) (i l r : ℕ) → is_done (link_core rows i l r).answer ≡ false → (link_core rows i l r).rows ≡ rows
+pub link_refused : (rows : List ℕ) (i l r : ℕ) → is_ok (link_core rows i l r).answer ≡ false → (link_core rows i l r).rows ≡ rows
 link_refused rows i l r t =
     by_cases (ℕ_discrete (beta rows i l) 0)
     (λ (z : beta rows i l ≡ 0). by_cases (ℕ_discrete (beta rows (opp i) r) 0)
@@ -43,13 +43,13 @@ link_refused rows i l r t =
     (λ (n : beta rows (opp i) r ≢ 0). rows_same _ _ (sym (link_image rows i l r _ refl z n))))
     (λ (n : beta rows i l ≢ 0). rows_same _ _ (sym (link_base rows i l r n)))
 
-pub unlink_refused : (rows : List ℕ) (i l : ℕ) → is_done (unlink_core rows i l).answer ≡ false → (unlink_core rows i l).rows ≡ rows
+pub unlink_refused : (rows : List ℕ) (i l : ℕ) → is_ok (unlink_core rows i l).answer ≡ false → (unlink_core rows i l).rows ≡ rows
 unlink_refused rows i l t =
     by_cases (ℕ_discrete (beta rows i l) 0)
     (λ (z : beta rows i l ≡ 0). rows_same _ _ (sym (unlink_free rows i l z)))
     (λ (n : beta rows i l ≢ 0). absurd (not_both _ _ (unlink_done rows i l _ _ _ _ refl refl n refl refl) t refl))
 
-module _ (rows : List ℕ) (i l r : ℕ) (t : is_done (link_core rows i l r).answer ≡ true) where
+module _ (rows : List ℕ) (i l r : ℕ) (t : is_ok (link_core rows i l r).answer ≡ true) where
   base_free : beta rows i l ≡ 0
   base_free =
       by_cases (ℕ_discrete (beta rows i l) 0) (λ z. z) (λ n. absurd (not_both _ _ (sym (link_base rows i l r n)) refl t))
@@ -61,21 +61,21 @@ module _ (rows : List ℕ) (i l r : ℕ) (t : is_done (link_core rows i l r).ans
   link_apart : 2 ≤ i → l ≢ r
   link_apart h e = not_both _ _ (sym (link_self rows i l r _ refl base_free image_free h e)) refl t
 
-  link_is : link_core rows i l r ≡ out pass (paired false rows i l r)
+  link_is : link_core rows i l r ≡ out nothing (paired false rows i l r)
   link_is = sym (link_done rows i l r _ _ _ refl base_free image_free link_apart refl refl)
 
   pub link_changed : r ≢ 0 → PairChanged false rows i l r (link_core rows i l r).rows
   link_changed n = record { was_l = base_free; was_r = image_free; apart = link_apart; real = n; put = rows_same _ _ link_is }
 
 module _ (rows : List ℕ) (i l r : ℕ) (w : WellFormed rows) (h₁ : 1 ≤ i) (h₄ : i < 4) (dl : Dart (darts rows) 1 l) (dr : Dart (darts rows) 1 r)
-    (t : is_done (link_core rows i l r).answer ≡ true) where
+    (t : is_ok (link_core rows i l r).answer ≡ true) where
   real_l : l ≢ 0
   real_l z = absurd (omega (arith, dl.allowed))
 
   real_r : r ≢ 0
   real_r z = absurd (omega (arith, dr.allowed))
 
-  pub link_pair : PairChanged false rows i l r (link_core rows i l r).rows × (link_core rows i l r ≡ out pass (paired false rows i l r))
+  pub link_pair : PairChanged false rows i l r (link_core rows i l r).rows × (link_core rows i l r ≡ out nothing (paired false rows i l r))
   link_pair = (link_changed rows i l r t real_r, link_is rows i l r t)
 
   pub link_keeps : WellFormed (link_core rows i l r).rows
@@ -89,13 +89,13 @@ module _ (rows : List ℕ) (i l r : ℕ) (w : WellFormed rows) (h₁ : 1 ≤ i) 
         others = pair_others false rows i l r _ link_pair.0;
       }
 
-  pub unlink_undoes : unlink_core (link_core rows i l r).rows i l ≡ out (Done r 0) rows
+  pub unlink_undoes : unlink_core (link_core rows i l r).rows i l ≡ out (done r 0) rows
   unlink_undoes =
       sym
       (unlink_done (link_core rows i l r).rows i l (opp i) r _ rows refl
       (sym link_changes.left) real_r refl (sym (pair_back false rows i l r _ link_pair.0 h₁ h₄)))
 
-module _ (rows : List ℕ) (i l : ℕ) (w : WellFormed rows) (h₁ : 1 ≤ i) (h₄ : i < 4) (t : is_done (unlink_core rows i l).answer ≡ true) where
+module _ (rows : List ℕ) (i l : ℕ) (w : WellFormed rows) (h₁ : 1 ≤ i) (h₄ : i < 4) (t : is_ok (unlink_core rows i l).answer ≡ true) where
   abbrev r : ℕ
   r = beta rows i l
 
@@ -111,7 +111,7 @@ module _ (rows : List ℕ) (i l : ℕ) (w : WellFormed rows) (h₁ : 1 ≤ i) (h
   below_base : l < darts rows
   below_base = rw leads_back at (w.below (opp i) (beta rows i l))
 
-  unlink_is : unlink_core rows i l ≡ out (Done (beta rows i l) 0) (paired true rows i l (beta rows i l))
+  unlink_is : unlink_core rows i l ≡ out (done (beta rows i l) 0) (paired true rows i l (beta rows i l))
   unlink_is = sym (unlink_done rows i l _ _ _ _ refl refl linked_image refl refl)
 
   pub unlink_changed : PairChanged true rows i l (beta rows i l) (unlink_core rows i l).rows
@@ -125,7 +125,7 @@ module _ (rows : List ℕ) (i l : ℕ) (w : WellFormed rows) (h₁ : 1 ≤ i) (h
       }
 
   pub unlink_pair : PairChanged true rows i l (beta rows i l) (unlink_core rows i l).rows
-      × (unlink_core rows i l ≡ out (Done (beta rows i l) 0) (paired true rows i l (beta rows i l)))
+      × (unlink_core rows i l ≡ out (done (beta rows i l) 0) (paired true rows i l (beta rows i l)))
   unlink_pair = (unlink_changed, unlink_is)
 
   pub unlink_keeps : WellFormed (unlink_core rows i l).rows
@@ -139,7 +139,7 @@ module _ (rows : List ℕ) (i l : ℕ) (w : WellFormed rows) (h₁ : 1 ≤ i) (h
         others = pair_others true rows i l r _ unlink_changed;
       }
 
-  pub link_undoes : link_core (unlink_core rows i l).rows i l (beta rows i l) ≡ out pass rows
+  pub link_undoes : link_core (unlink_core rows i l).rows i l (beta rows i l) ≡ out nothing rows
   link_undoes =
       sym
       (link_done (unlink_core rows i l).rows i l r (opp i) _ rows refl

@@ -10,12 +10,12 @@ use mathlib.Core.Bool.{Bool, true, false, cond, not, ◌||◌, ◌&&◌, true≢
 use lib.ListN.{length}
 use lib.Dec.{leb, eqb}
 use borrow.Author.Tests.{eq-eqb, ne_eqb, lt-ltb, le-ltb, le-leb, lt-leb, eqb-true, eqb-false, ltb-false, not-false}
-use Rattle.map_betas.specs.declared.error.Answer.TheVariants.{Refused}
 use Rattle.map_betas.specs.declared.error.Refusal.TheVariants.{BadSize, NotAMap}
 use Rattle.map_betas.specs.Betas.{beta, darts, opp}
 use Rattle.map_betas.specs.Answers.{pass}
 use Rattle.map_betas.specs.Maps.{Sized, NullRow, bad_size, size_test, breaks, breach_at, bound, first_breach, map_test}
 use Rattle.map_betas.proofs.BetaLaws.{opp_lt, no_self}
+use Rattle.std.specs.Prelude.{Err}
 
 -- the size
 
@@ -56,7 +56,7 @@ module _ (k : ℕ) where
   bad_not n r h = simp (ne_eqb k 0 n, eq-eqb (k % 4) 0 r, le-ltb 4194304 k h)
 
 module _ (rows : List ℕ) where
-  pub size_refused : bad_size (length rows) ≡ true → Refused (BadSize (length rows)) ≡ size_test rows
+  pub size_refused : bad_size (length rows) ≡ true → Err (BadSize (length rows)) ≡ size_test rows
   size_refused e = simp e
 
   pub size_passed : bad_size (length rows) ≡ false → pass ≡ size_test rows
@@ -166,13 +166,13 @@ module _ (rows : List ℕ) (d : ℕ) where
 -- the search for the first breach, at dart d of n
 
 module _ (rows flags : List ℕ) (n d : ℕ) where
-  pub first_hit : (i : ℕ) → d < n → i ≡ breach_at rows d → i < 4 → Refused (NotAMap i d) ≡ first_breach (n - d) rows flags d
+  pub first_hit : (i : ℕ) → d < n → i ≡ breach_at rows d → i < 4 → Err (NotAMap i d) ≡ first_breach (n - d) rows flags d
   unfolding first_breach
   first_hit i h e l =
       let p : n - d ≡ suc (n - (d + 1)) = omega arith in
       rw p (simp (← e, lt-ltb i 4 l))
 
-  pub first_bound : d < n → 4 ≤ breach_at rows d → bound rows flags d ≡ true → Refused (NotAMap 4 d) ≡ first_breach (n - d) rows flags d
+  pub first_bound : d < n → 4 ≤ breach_at rows d → bound rows flags d ≡ true → Err (NotAMap 4 d) ≡ first_breach (n - d) rows flags d
   unfolding first_breach
   first_bound h l b =
       let p : n - d ≡ suc (n - (d + 1)) = omega arith in

@@ -16,7 +16,6 @@ use mathlib.Core.Logic.{◌≢◌, by_cases}
 use mathlib.Core.List.{List}
 use mathlib.Core.Bool.{Bool, true, false, true≢false}
 use Rattle.map_betas.specs.Betas.{beta, darts, opp}
-use Rattle.map_betas.specs.Answers.{is_done}
 use Rattle.map_betas.specs.Maps.{WellFormed, unused, Free, Map, Spares, Keeps, Stays}
 use Rattle.map_betas.specs.Guards.{Dart}
 use Rattle.map_betas.specs.Cores.{link_core, unlink_core}
@@ -24,6 +23,7 @@ use Rattle.map_betas.proofs.BetaLaws.{opp_lt}
 use Rattle.map_betas.proofs.Stores.{PairChanged, pair_others}
 use Rattle.map_betas.proofs.Kept.{link_changed, link_refused, unlink_changed, unlink_refused}
 use Rattle.map_betas.proofs.Always.{link_formed, link_length, unlink_formed, unlink_length}
+use Rattle.std.specs.Prelude.{is_ok}
 
 pub pair_spares : (parting : Bool) (rows : List ℕ) (i l r : ℕ) (rows' : List ℕ) → PairChanged parting rows i l r rows' → i < 4 → Spares l r rows rows'
 pair_spares parting rows i l r rows' h h₄ d nl nr f k hk =
@@ -31,16 +31,16 @@ pair_spares parting rows i l r rows' h h₄ d nl nr f k hk =
     pair_others parting rows i l r rows' h k d (λ e. nl (omega arith)) (λ e. nr (omega arith)) ∙ f k hk
 
 pub link_spares : (rows : List ℕ) (i l r : ℕ) → i < 4 → r ≢ 0 → Spares l r rows (link_core rows i l r).rows
-link_spares rows i l r h₄ nr = go (is_done (link_core rows i l r).answer) refl
+link_spares rows i l r h₄ nr = go (is_ok (link_core rows i l r).answer) refl
   where
-    go : (b : Bool) → is_done (link_core rows i l r).answer ≡ b → Spares l r rows (link_core rows i l r).rows
+    go : (b : Bool) → is_ok (link_core rows i l r).answer ≡ b → Spares l r rows (link_core rows i l r).rows
     go true t = pair_spares false rows i l r _ (link_changed rows i l r t nr) h₄
     go false t = rw (link_refused rows i l r t) (λ d a b f. f)
 
 pub unlink_spares : (rows : List ℕ) (i l : ℕ) → WellFormed rows → 1 ≤ i → i < 4 → Spares l l rows (unlink_core rows i l).rows
-unlink_spares rows i l w h₁ h₄ = go (is_done (unlink_core rows i l).answer) refl
+unlink_spares rows i l w h₁ h₄ = go (is_ok (unlink_core rows i l).answer) refl
   where
-    go : (b : Bool) → is_done (unlink_core rows i l).answer ≡ b → Spares l l rows (unlink_core rows i l).rows
+    go : (b : Bool) → is_ok (unlink_core rows i l).answer ≡ b → Spares l l rows (unlink_core rows i l).rows
     go true t =
         let h = unlink_changed rows i l w h₁ h₄ t in
         λ d a b f. pair_spares true rows i l (beta rows i l) _ h h₄ d a

@@ -2,11 +2,10 @@
 --   place i d        the place of the image of dart d by beta i
 --   beta rows i d    that image; 0, the null dart, past the end
 --   darts rows       how many darts there are, the null dart counted
---   larger a b       the larger of two images: where one is null, the other
 --   opp i            the beta that leads back from an image by beta i
 --   put rows i l r   the rows with l and r linked by beta i
 --   cut rows i l r   the rows with l and r unlinked by beta i
-use Rattle.std.specs.Prelude.{ℕ, zero, suc, ◌+◌, ◌*◌, ◌/◌, cond, List, leb, length, get_or, set}
+use Rattle.std.specs.Prelude.{ℕ, zero, suc, ◌+◌, ◌*◌, ◌/◌, List, length, get_or, set}
 
 -- where the image of d by beta i stands (scope: rows)
 abbrev pub place : ℕ → ℕ → ℕ
@@ -30,7 +29,3 @@ put rows i l r = set (set rows (place i l) r) (place (opp i) r) l
 
 abbrev pub cut : List ℕ → ℕ → ℕ → ℕ → List ℕ
 cut rows i l r = set (set rows (place i l) 0) (place (opp i) r) 0
-
--- the larger of two images: the one that there is, where the other is null (scope: far end)
-abbrev pub larger : ℕ → ℕ → ℕ
-larger a b = cond (leb a b) b a

@@ -4,9 +4,8 @@
 --   Crossed L   a number, the list of values, and what is left of the loans, an L
 --   crossed o   the outcome o so
 use Rattle.std.specs.Prelude.{ℕ, List, [], ◌∷◌}
-use Rattle.map_betas.specs.declared.error.Answer.{Answer}
 use Rattle.map_betas.specs.declared.error.Told.{Told}
-use Rattle.map_betas.specs.Answers.{tell_of, Outcome}
+use Rattle.map_betas.specs.Answers.{tell_of, Outcome, Answer}
 
 pub record Flat : Type 0 where
   pub number : ℕ

@@ -11,14 +11,14 @@
 --   guard_of            all tests of a call on a map
 --   check_map           the tests of a call that has rows and flags alone
 --   Lent, Dart, Ready  what holds once they have passed (`proofs/GuardLaws.antt`)
-use Rattle.std.specs.Prelude.{ℕ, ◌*◌, ◌<◌, ◌≤◌, ◌≡◌, List, Bool, false, cond, ◌&&◌, ◌||◌, ltb, leb, length}
-use Rattle.map_betas.specs.declared.error.Answer.{Answer}
-use Rattle.map_betas.specs.declared.error.Answer.TheVariants.{Refused}
+use Rattle.std.specs.Prelude.{ℕ, ◌*◌, ◌<◌, ◌≤◌, ◌≡◌, List, Bool, false, cond, ◌&&◌, ◌||◌, ltb, leb, length, Err}
+use Rattle.map_betas.specs.declared.error.Loan.TheVariants.{Marks, Queue, Output, Flags, Vertices, Coordinates}
 use Rattle.map_betas.specs.declared.error.Refusal.TheVariants.{ShortLoan, BadDart}
 use Rattle.map_betas.specs.declared.loans.Loans.{Loans}
 use Rattle.map_betas.specs.Betas.{darts}
-use Rattle.map_betas.specs.Answers.{pass, and_then}
+use Rattle.map_betas.specs.Answers.{Answer, nothing, pass, Test}
 use Rattle.map_betas.specs.Maps.{size_test, unused, map_test, Map}
+use Rattle.std.specs.Result.{result_and}
 
 -- three coordinates for each of 1,048,576 darts: no map asks for more
 abbrev pub enough : ℕ
@@ -62,14 +62,14 @@ command_loans marks queue output needed vertices coordinates =
     record { marks = marks; queue = queue; output = counted_as output needed; vertices = vertices; coordinates = coordinates }
 
 -- the first loan that is too short, in the order of their numbers (scope: loans); flags is the length of that loan
-unfoldable pub loan_test : ℕ → ℕ → Loans → Answer
+unfoldable pub loan_test : ℕ → ℕ → Loans → Test
 loan_test n flags loans =
-    cond (ltb loans.marks n) (Refused (ShortLoan 1))
-    (cond (ltb loans.queue n) (Refused (ShortLoan 2))
-    (cond (ltb loans.output n) (Refused (ShortLoan 3))
-    (cond (ltb flags n) (Refused (ShortLoan 4))
-    (cond (ltb loans.vertices n) (Refused (ShortLoan 5))
-    (cond (ltb loans.coordinates (3 * n)) (Refused (ShortLoan 6)) pass)))))
+    cond (ltb loans.marks n) (Err (ShortLoan Marks))
+    (cond (ltb loans.queue n) (Err (ShortLoan Queue))
+    (cond (ltb loans.output n) (Err (ShortLoan Output))
+    (cond (ltb flags n) (Err (ShortLoan Flags))
+    (cond (ltb loans.vertices n) (Err (ShortLoan Vertices))
+    (cond (ltb loans.coordinates (3 * n)) (Err (ShortLoan Coordinates)) pass)))))
 
 -- a dart that is below the least that the call takes, 0, or 1 where the null dart is refused; that is none of the map's; or that is unused,
 -- where the null dart is refused (scope: darts)
@@ -77,21 +77,21 @@ unfoldable pub no_dart : ℕ → List ℕ → ℕ → ℕ → Bool
 no_dart n flags least d = ltb d least || (leb n d || (leb 1 least && unused flags d))
 
 -- refusal 4 says which of the two darts it was: the first that is bad, whichever way it is bad
-abbrev pub dart_test : ℕ → List ℕ → ℕ → ℕ → ℕ → Answer
+abbrev pub dart_test : ℕ → List ℕ → ℕ → ℕ → ℕ → Test
 dart_test n flags least a b =
-    cond (no_dart n flags least a) (Refused (BadDart 1)) (cond (no_dart n flags least b) (Refused (BadDart 2)) pass)
+    cond (no_dart n flags least a) (Err (BadDart 1)) (cond (no_dart n flags least b) (Err (BadDart 2)) pass)
 
 -- refusals 1, 2 and 3
-unfoldable pub map_guard : List ℕ → List ℕ → Loans → Answer
+unfoldable pub map_guard : List ℕ → List ℕ → Loans → Test
 map_guard rows flags loans =
-    and_then (size_test rows) (and_then (loan_test (darts rows) (length flags) loans) (map_test rows flags))
+    result_and (size_test rows) (result_and (loan_test (darts rows) (length flags) loans) (map_test rows flags))
 
-unfoldable pub guard_of : List ℕ → List ℕ → Loans → ℕ → ℕ → ℕ → Answer
-guard_of rows flags loans least a b = and_then (map_guard rows flags loans) (dart_test (darts rows) flags least a b)
+unfoldable pub guard_of : List ℕ → List ℕ → Loans → ℕ → ℕ → ℕ → Test
+guard_of rows flags loans least a b = result_and (map_guard rows flags loans) (dart_test (darts rows) flags least a b)
 
 -- whether rows and flags are a map
 abbrev pub check_map : List ℕ → List ℕ → Answer
-check_map rows flags = map_guard rows flags no_loans
+check_map rows flags = result_and (map_guard rows flags no_loans) nothing
 
 pub record Lent (n : ℕ) (loans : Loans) : Type 0 where
   pub marks : n ≤ loans.marks

@@ -16,12 +16,10 @@
 --   Spares a b rows rows' from rows to rows' no dart that was free has become linked, but for a and b
 --   Keeps a b rows rows'  and rows' are well formed and as many
 --   Stays flags rows rows'   rows' are a map with the same flags, and as many
-use Rattle.std.specs.Prelude.{ℕ, zero, suc, ◌+◌, ◌*◌, ◌%◌, ◌<◌, ◌≤◌, ◌≡◌, ◌≢◌, List, Bool, true, cond, not, ◌&&◌, ◌||◌, length, get_or, ltb, leb, eqb}
-use Rattle.map_betas.specs.declared.error.Answer.{Answer}
-use Rattle.map_betas.specs.declared.error.Answer.TheVariants.{Refused}
+use Rattle.std.specs.Prelude.{ℕ, zero, suc, ◌+◌, ◌*◌, ◌%◌, ◌<◌, ◌≤◌, ◌≡◌, ◌≢◌, List, Bool, true, cond, not, ◌&&◌, ◌||◌, length, get_or, ltb, leb, eqb, Err}
 use Rattle.map_betas.specs.declared.error.Refusal.TheVariants.{BadSize, NotAMap}
 use Rattle.map_betas.specs.Betas.{beta, darts, opp}
-use Rattle.map_betas.specs.Answers.{pass}
+use Rattle.map_betas.specs.Answers.{pass, Test}
 
 -- whole rows of at least one dart and at most as many as there may be (scope: rows)
 pub record Sized (rows : List ℕ) : Type 0 where
@@ -33,8 +31,8 @@ pub record Sized (rows : List ℕ) : Type 0 where
 unfoldable pub bad_size : ℕ → Bool
 bad_size k = eqb k 0 || (not (eqb (k % 4) 0) || ltb 4194304 k)
 
-abbrev pub size_test : List ℕ → Answer
-size_test rows = cond (bad_size (length rows)) (Refused (BadSize (length rows))) pass
+abbrev pub size_test : List ℕ → Test
+size_test rows = cond (bad_size (length rows)) (Err (BadSize (length rows))) pass
 
 -- scope: map. Whether the image of d by beta i, taken by itself, breaks a rule: it is no dart, it is an image of the null dart,
 -- it does not lead back, or it is d itself by beta 2 or 3. A null image of a real dart breaks none.
@@ -63,13 +61,13 @@ unfoldable pub bound : List ℕ → List ℕ → ℕ → Bool
 bound rows flags d = unused flags d && not (free_at rows d)
 
 -- scope: map. Each dart's images by beta, then whether it is unused and linked, before the next dart: 4 stands where the beta would.
-unfoldable pub first_breach : ℕ → List ℕ → List ℕ → ℕ → Answer
+unfoldable pub first_breach : ℕ → List ℕ → List ℕ → ℕ → Test
 first_breach zero rows flags d = pass
 first_breach (suc f) rows flags d =
     let more = first_breach f rows flags (d + 1) in
-    cond (ltb (breach_at rows d) 4) (Refused (NotAMap (breach_at rows d) d)) (cond (bound rows flags d) (Refused (NotAMap 4 d)) more)
+    cond (ltb (breach_at rows d) 4) (Err (NotAMap (breach_at rows d) d)) (cond (bound rows flags d) (Err (NotAMap 4 d)) more)
 
-unfoldable pub map_test : List ℕ → List ℕ → Answer
+unfoldable pub map_test : List ℕ → List ℕ → Test
 map_test rows flags = first_breach (darts rows) rows flags 0
 
 -- The rules. Past the end every image is null, so that no law asks for a dart below n.

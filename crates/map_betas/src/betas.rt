@@ -1,10 +1,10 @@
 // The images of darts, one by one, and the cores of links and unlinks, once over the beta. Ports components/betas.rs.
 ghost use Rattle.std.specs.Prelude.{◌≡◌, ◌+◌, ◌*◌, ◌≤◌, ◌<◌, length, set};
-ghost use Rattle.map_betas.specs.Betas.{beta, place, opp, larger};
+ghost use Rattle.map_betas.specs.Betas.{beta, place, opp};
 ghost use Rattle.map_betas.specs.Answers.{out};
 ghost use Rattle.map_betas.specs.Cores.{link_core, unlink_core};
 
-use crate::error::{Answer, Refusal};
+use crate::error::{Answer, Done, Refusal};
 
 // The image of d by beta i.
 pub fn beta_at(rows: &[u32], i: u32, d: u32) -> u32
@@ -29,13 +29,6 @@ pub fn opp_of(i: u32) -> u32
     if i < 2 { 1 - i } else { i }
 }
 
-// The larger of two images: the one that is not null, where one is.
-pub fn larger_of(a: u32, b: u32) -> u32
-    ensures { result ≡ larger a b }
-{
-    if a <= b { b } else { a }
-}
-
 // Links l and r by beta i: the base and the image have to be free.
 pub fn link_core(rows: &mut [u32], i: u32, l: u32, r: u32) -> Answer
     requires { (1 ≤ i) × (i < 4) × (4 * l + 3 < length rows.old) × (4 * r + 3 < length rows.old) }
@@ -43,19 +36,17 @@ pub fn link_core(rows: &mut [u32], i: u32, l: u32, r: u32) -> Answer
 {
     let j = opp_of(i);
     if beta_at(rows, i, l) != 0 {
-        return Answer::Refused(Refusal::NonFreeBase(i, l, r));
+        return Err(Refusal::NonFreeBase(i, l, r));
     }
     if beta_at(rows, j, r) != 0 {
-        return Answer::Refused(Refusal::NonFreeImage(j, l, r));
+        return Err(Refusal::NonFreeImage(j, l, r));
     }
-    if 1 < i {
-        if l == r {
-            return Answer::Refused(Refusal::NonFreeImage(i, l, r));
-        }
+    if 1 < i && l == r {
+        return Err(Refusal::NonFreeImage(i, l, r));
     }
     set_beta(rows, i, l, r);
     set_beta(rows, j, r, l);
-    Answer::Done(0, 0)
+    Ok(Done::NOTHING)
 }
 
 // Unlinks l and its image by beta i, which is answered.
@@ -65,9 +56,9 @@ pub fn unlink_core(rows: &mut [u32], i: u32, l: u32) -> Answer
 {
     let x = beta_at(rows, i, l);
     if x == 0 {
-        return Answer::Refused(Refusal::AlreadyFree(i, l));
+        return Err(Refusal::AlreadyFree(i, l));
     }
     set_beta(rows, i, l, 0);
     set_beta(rows, opp_of(i), x, 0);
-    Answer::Done(x, 0)
+    Ok(Done { value: x, count: 0 })
 }

@@ -5,3 +5,4 @@
 pub mod betas;
 pub mod error;
 pub mod loans;
+pub mod rows;

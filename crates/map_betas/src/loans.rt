@@ -15,18 +15,14 @@ pub struct Loans {
 // As long as any map could ask: three coordinates for each of 1,048,576 darts.
 const ENOUGH: usize = 3145728;
 
-// The loans of a call that has none.
-pub fn no_loans() -> Loans
-    ensures { result ≡ no_loans }
-{
-    Loans {
-        marks: ENOUGH,
-        queue: ENOUGH,
-        output: ENOUGH,
-        vertices: ENOUGH,
-        coordinates: ENOUGH,
-    }
-}
+// The loans of a call that has none beside rows and flags.
+pub const NO_LOANS: Loans = Loans {
+    marks: ENOUGH,
+    queue: ENOUGH,
+    output: ENOUGH,
+    vertices: ENOUGH,
+    coordinates: ENOUGH,
+};
 
 // The loans of a call that has marks and a queue.
 pub fn scratch(marks: usize, queue: usize) -> Loans
@@ -35,9 +31,7 @@ pub fn scratch(marks: usize, queue: usize) -> Loans
     Loans {
         marks,
         queue,
-        output: ENOUGH,
-        vertices: ENOUGH,
-        coordinates: ENOUGH,
+        ..NO_LOANS
     }
 }
 
@@ -47,10 +41,8 @@ pub fn orbit_loans(marks: usize, output: usize) -> Loans
 {
     Loans {
         marks,
-        queue: ENOUGH,
         output,
-        vertices: ENOUGH,
-        coordinates: ENOUGH,
+        ..NO_LOANS
     }
 }
 
@@ -62,8 +54,7 @@ pub fn list_loans(marks: usize, queue: usize, output: usize) -> Loans
         marks,
         queue,
         output,
-        vertices: ENOUGH,
-        coordinates: ENOUGH,
+        ..NO_LOANS
     }
 }
 
@@ -74,9 +65,9 @@ pub fn vertex_loans(marks: usize, queue: usize, vertices: usize, coordinates: us
     Loans {
         marks,
         queue,
-        output: ENOUGH,
         vertices,
         coordinates,
+        ..NO_LOANS
     }
 }
 
@@ -85,11 +76,9 @@ pub fn reader_loans(vertices: usize, coordinates: usize) -> Loans
     ensures { result ≡ reader_loans vertices coordinates }
 {
     Loans {
-        marks: ENOUGH,
-        queue: ENOUGH,
-        output: ENOUGH,
         vertices,
         coordinates,
+        ..NO_LOANS
     }
 }
 
@@ -111,11 +100,10 @@ pub fn command_loans(
 ) -> Loans
     ensures { result ≡ command_loans marks queue output needed vertices coordinates }
 {
-    let answers = counted_as(output, needed);
     Loans {
         marks,
         queue,
-        output: answers,
+        output: counted_as(output, needed),
         vertices,
         coordinates,
     }

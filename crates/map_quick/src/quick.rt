@@ -3,7 +3,7 @@ ghost use Rattle.std.specs.Prelude.{◌≡◌, true, false, ◌*◌, ◌<◌, le
 ghost use Rattle.map_betas.specs.Betas.{beta, darts};
 ghost use Rattle.map_betas.specs.Maps.{breaks, breach_at};
 
-use map_betas::betas::{beta_at, larger_of};
+use map_betas::betas::beta_at;
 
 // True only where the images x and y of a real dart d by beta 2 and beta 3 break no rule: each leads back or is null. Where x is null, y is tested apart, since
 // two ways that meet again are compiled to slower tests.
@@ -40,10 +40,7 @@ fn all_below(n: usize, x0: u32, x1: u32, x2: u32, x3: u32) -> bool
     if ((x0 | x1 | x2 | x3) as usize) < n {
         return true;
     }
-    if n <= larger_of(x0, x1) as usize {
-        return false;
-    }
-    (larger_of(x2, x3) as usize) < n
+    (x0.max(x1) as usize) < n && (x2.max(x3) as usize) < n
 }
 
 // True only where no image of a real dart d breaks a rule: the four are read at once and their range is tested. Those by beta 0 and beta 1 have to lead back,

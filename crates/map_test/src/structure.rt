@@ -4,25 +4,22 @@ ghost use Rattle.map_betas.specs.Betas.{darts};
 ghost use Rattle.map_betas.specs.Maps.{Sized, size_test, breach_at, map_test};
 
 use map_betas::betas::beta_at;
-use map_betas::error::{Answer, Refusal};
+use map_betas::error::Refusal;
 use map_breaches::breaches::breach_at;
 use map_breaches::free::bound_at;
 
+// The most places that the rows of a map have: 1,048,576 darts, four images each.
+const MOST: usize = 4194304;
+
 // Refuses rows that are no whole rows of 1 to 1,048,576 darts.
-pub fn size_test(rows: &[u32]) -> Answer
+pub fn size_test(rows: &[u32]) -> Result<(), Refusal>
     ensures { result ≡ size_test rows.now }
 {
     let k = rows.len();
-    if k == 0 {
-        return Answer::Refused(Refusal::BadSize(k));
+    if k == 0 || k % 4 != 0 || MOST < k {
+        return Err(Refusal::BadSize(k));
     }
-    if k % 4 != 0 {
-        return Answer::Refused(Refusal::BadSize(k));
-    }
-    if 4194304 < k {
-        return Answer::Refused(Refusal::BadSize(k));
-    }
-    Answer::Done(0, 0)
+    Ok(())
 }
 
 // The least beta whose image of the null dart is not null, or 4.
@@ -46,25 +43,23 @@ fn null_breach(rows: &[u32]) -> u32
 }
 
 // Refuses the first dart that breaks a rule, by its images and then by its flag, in one pass. The flag of dart 0 is not looked at.
-pub fn map_test(rows: &[u32], flags: &[u8]) -> Answer
+pub fn map_test(rows: &[u32], flags: &[u8]) -> Result<(), Refusal>
     requires { Sized rows.now × (darts rows.now ≤ length flags.now) }
     ensures { result ≡ map_test rows.now flags.now }
 {
     let b = null_breach(rows);
     if b < 4 {
-        return Answer::Refused(Refusal::NotAMap(b, 0));
+        return Err(Refusal::NotAMap(b, 0));
     }
     let n = (rows.len() / 4) as u32;
-    let mut d: u32 = 1;
-    while d < n {
+    for d in 1..n {
         let i = breach_at(rows, d);
         if i < 4 {
-            return Answer::Refused(Refusal::NotAMap(i, d));
+            return Err(Refusal::NotAMap(i, d));
         }
         if bound_at(rows, flags, d) {
-            return Answer::Refused(Refusal::NotAMap(4, d));
+            return Err(Refusal::NotAMap(4, d));
         }
-        d += 1;
     }
-    Answer::Done(0, 0)
+    Ok(())
 }

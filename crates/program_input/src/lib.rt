@@ -15,6 +15,7 @@ pub fn read_full<R: Read>(reader: &mut R, buffer: &mut [u8]) -> io::Result<usize
     ensures ended { IfOk result (λ n. n < length buffer.new → IsAtEnd (R.remaining reader.new)) }
 {
     let mut n = 0;
+    // Stays: how much a read gives is the reader's, so no range has the places.
     while n < buffer.len() {
         let read = reader.read(&mut buffer[n..])?;
         if read == 0 {

@@ -3,7 +3,7 @@
 --   told_is      the line of a refusal
 --   used_start, used_yes, used_no   the count of the darts, one dart on
 --   head_is, head_length   the line of the darts
---   listed_line, listed_count   a list in the first places of an output, as a line
+--   listed_front, listed_count   a list in the first places of an output
 --   class_is, class_fits, class_next   the line of a class, its room, and where it ends
 --   map_is       the five lines of a map
 --   wiped_four, lists_over_lem   the loans of the four lists, one after the other
@@ -13,12 +13,11 @@ use mathlib.Core.Path.{◌≡◌, refl, sym, ap, ◌∙◌}
 use mathlib.Core.Logic.{◌≢◌}
 use mathlib.Core.Bool.{cond}
 use mathlib.Core.List.{List, [], ◌∷◌, ◌++◌}
-use lib.ListN.{length, get_or, drop, replicate, length-append}
+use lib.ListN.{length, get_or, take, drop, replicate, length-append}
+use lib.Seq.{take_at}
 use lib.Dec.{eqb}
 use borrow.Author.Tests.{eq-eqb, ne_eqb}
-use Rattle.map_betas.specs.declared.error.Answer.{Answer}
 use Rattle.map_betas.specs.declared.error.Told.{Told}
-use Rattle.map_betas.specs.Answers.{tell_of}
 use Rattle.map_betas.specs.Betas.{darts}
 use Rattle.cell_steps.specs.Loans.{Listed}
 use Rattle.cell_steps.specs.Calls.{wiped, headed}
@@ -29,8 +28,8 @@ use Rattle.cell_names.specs.Cells.{list_of}
 use Rattle.report_text.specs.Texts.{decimal, put, lay, line_of}
 use Rattle.report_text.proofs.TextLaws.{lay_then, lay_next}
 use Rattle.report_lines.specs.Report.{value_of, refused_word, darts_word, used_word, vertices_word, edges_word, faces_word}
-use Rattle.report_lines.specs.Report.{volumes_word, told_line, refused_line, used_up_to, head_line, class_line, map_text, lists_over}
-use Rattle.report_lines.proofs.Rooms.{value_room, decimal_room, items_front, class_room}
+use Rattle.report_lines.specs.Report.{volumes_word, told_line, used_up_to, head_line, class_line, map_text, lists_over}
+use Rattle.report_lines.proofs.Rooms.{value_room, decimal_room, class_room}
 
 pub value_next : (x : ℕ) (out : List ℕ) (at : ℕ) (o₁ o₂ : List ℕ) (a b : ℕ) → x < 18446744073709551616 →
     put a o₁ ≡ lay out at (32 ∷ []) → put b o₂ ≡ lay o₁ a (decimal x) → b ≤ at + 21
@@ -45,14 +44,14 @@ pub value_is : (x : ℕ) (out : List ℕ) (at : ℕ) (o₁ o₂ : List ℕ) (a b
 unfolding value_of
 value_is x out at o₁ o₂ a b room e₁ e₂ = lay_then out at (32 ∷ []) (decimal x) o₁ o₂ a b (omega arith) e₁ e₂
 
--- the refusal: t is what the code has of the answer
-pub told_is : (w : Answer) (t : Told) (out : List ℕ) (at : ℕ) (o₁ o₂ o₃ o₄ o₅ o₆ : List ℕ) (a b c d e f : ℕ) → t ≡ tell_of w →
+-- the line of a refusal that t says
+pub told_is : (t : Told) (out : List ℕ) (at : ℕ) (o₁ o₂ o₃ o₄ o₅ o₆ : List ℕ) (a b c d e f : ℕ) →
     b ≤ a + 21 → c ≤ b + 21 → d ≤ c + 21 → e ≤ d + 21 →
     at + 92 ≤ length out → put a o₁ ≡ lay out at refused_word → put b o₂ ≡ lay o₁ a (value_of t.number) → put c o₃ ≡ lay o₂ b (value_of t.first) →
     put d o₄ ≡ lay o₃ c (value_of t.second) → put e o₅ ≡ lay o₄ d (value_of t.third) → put f o₆ ≡ lay o₅ e (10 ∷ []) →
-    put f o₆ ≡ lay out at (refused_line w)
+    put f o₆ ≡ lay out at (told_line t)
 unfolding told_line
-told_is w t out at o₁ o₂ o₃ o₄ o₅ o₆ a b c d e f et v₁ v₂ v₃ v₄ room e₁ e₂ e₃ e₄ e₅ e₆ =
+told_is t out at o₁ o₂ o₃ o₄ o₅ o₆ a b c d e f v₁ v₂ v₃ v₄ room e₁ e₂ e₃ e₄ e₅ e₆ =
     let n₂ = lay_next o₁ a (value_of t.number) o₂ b e₂ in
     let n₃ = lay_next o₂ b (value_of t.first) o₃ c e₃ in
     let n₄ = lay_next o₃ c (value_of t.second) o₄ d e₄ in
@@ -70,7 +69,6 @@ told_is w t out at o₁ o₂ o₃ o₄ o₅ o₆ a b c d e f et v₁ v₂ v₃ v
     (lay_then out at t₂ (value_of t.second) o₃ o₄ c d (omega arith)
     (lay_then out at t₁ (value_of t.first) o₂ o₃ b c (omega arith)
     (lay_then out at refused_word (value_of t.number) o₁ o₂ a b (omega arith) e₁ e₂) e₃) e₄) e₅) e₆
-    ∙ ap (λ (x : Told). lay out at (told_line x)) et
 
 -- the darts
 
@@ -123,12 +121,9 @@ head_length n used = simp length-append (omega arith)
 
 -- the cells
 
-listed_line : (name l out o : List ℕ) (count : ℕ) → Listed l out o count → line_of name o count ≡ line_of name l (length l)
-unfolding line_of
-listed_line name l out o count h =
-    ap (λ (k : ℕ). line_of name o k) h.count ∙ ap (λ (x : List ℕ). line_of name x (length l)) h.places
-    ∙ ap (λ (x : List ℕ). ((((name ++ (32 ∷ [])) ++ decimal (length l)) ++ (58 ∷ [])) ++ x) ++ (10 ∷ []))
-    (items_front l (drop (length l) out) (length l) (omega arith))
+-- the listed darts are the first places of the output
+listed_front : (l out o : List ℕ) (count : ℕ) → Listed l out o count → take count o ≡ l
+listed_front l out o count h = ap (take count) h.places ∙ take_at l (drop (length l) out) count (omega (arith, h.count))
 
 pub listed_count : (l out o : List ℕ) (count : ℕ) → Listed l out o count → count ≤ length o
 listed_count l out o count h =
@@ -137,15 +132,18 @@ listed_count l out o count h =
 
 -- o is what the output holds, t₀ and t₁ the text before and after
 pub class_is : (name : List ℕ) (class : Class) (rows flags out o : List ℕ) (count : ℕ) (t₀ t₁ : List ℕ) (at r : ℕ) →
-    Listed (list_of class rows flags) out o count → put r t₁ ≡ lay t₀ at (line_of name o count) → put r t₁ ≡ lay t₀ at (class_line name class rows flags)
+    Listed (list_of class rows flags) out o count → put r t₁ ≡ lay t₀ at (line_of name (take count o) (length (take count o))) →
+    put r t₁ ≡ lay t₀ at (class_line name class rows flags)
 unfolding class_line
-class_is name class rows flags out o count t₀ t₁ at r h e = e ∙ ap (lay t₀ at) (listed_line name (list_of class rows flags) out o count h)
+class_is name class rows flags out o count t₀ t₁ at r h e =
+    e ∙ ap (λ (x : List ℕ). lay t₀ at (line_of name x (length x))) (listed_front (list_of class rows flags) out o count h)
 
 pub class_fits : (name : List ℕ) (class : Class) (rows flags out o : List ℕ) (count at m : ℕ) → 1 ≤ darts rows → darts rows ≤ 1024 →
-    Listed (list_of class rows flags) out o count → at + length name + 5122 ≤ m → at + length (line_of name o count) ≤ m
+    Listed (list_of class rows flags) out o count → at + length name + 5122 ≤ m → at + length (line_of name (take count o) (length (take count o))) ≤ m
 unfolding class_line
 class_fits name class rows flags out o count at m s f h room =
-    let e : length (line_of name o count) ≡ length (class_line name class rows flags) = ap length (listed_line name (list_of class rows flags) out o count h) in
+    let e : length (line_of name (take count o) (length (take count o))) ≡ length (class_line name class rows flags) =
+    ap (λ (x : List ℕ). length (line_of name x (length x))) (listed_front (list_of class rows flags) out o count h) in
     let r = class_room name class rows flags s f in
     omega arith
 

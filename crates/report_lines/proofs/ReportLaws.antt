@@ -1,27 +1,26 @@
 -- The reader's answer, and the whole report. Assumes nothing.
 --   test_is        with loans for 1,024 darts the reader's tests answer what `answer_of` says
---   tested         the reader is done exactly where `answer_of` is
 --   refused_is     the report of an image that is refused
 --   fit            what holds of an image that is read
 --   rows_are, flags_are, rows_n, flags_n, formed   the parts of the loans that are lent on: the image's rows and flags
---   done_is        the report of an image that is read
+--   darts_are      how many darts it says
+--   report_is      the report of an image that is read
 --   more_is        the report of an input that is too long
 --   left_refused, left_done, left_more   what the report leaves in its other loans, case by case
 use Prim.Native.Nat.{ℕ, ◌*◌, ◌≤◌}
 use native.Mathlib.Omega.{arith}
 use mathlib.Core.Path.{◌≡◌, refl, sym, ap, ◌∙◌}
-use mathlib.Core.Bool.{Bool, true, false, cond}
+use mathlib.Core.Bool.{Bool, true, false, true≢false}
 use mathlib.Core.List.{List}
 use lib.ListN.{length, take, drop}
 use lib.Seq.{take_at}
 use lib.Ieee.{Float}
-use Rattle.map_betas.specs.declared.error.Answer.{Answer}
-use Rattle.map_betas.specs.declared.error.Answer.TheVariants.{Refused}
 use Rattle.map_betas.specs.declared.error.Refusal.TheVariants.{BadImage}
-use Rattle.map_betas.specs.Answers.{pass, is_done, and_then}
+use Rattle.map_betas.specs.Answers.{pass, behind, Answer, Test}
 use Rattle.map_betas.specs.Betas.{darts}
 use Rattle.map_betas.specs.Maps.{WellFormed}
-use Rattle.map_betas.proofs.AnswerLaws.{stops}
+use Rattle.map_betas.specs.declared.error.Done.{Done}
+use Rattle.map_betas.specs.declared.error.Refusal.{Refusal}
 use Rattle.map_betas.proofs.GuardLaws.{loan_none}
 use Rattle.image_form.specs.Form.{form1, darts_of, vertices_of, rows_of, flags_of, Header}
 use Rattle.image_form.specs.Tests.{header_test}
@@ -29,79 +28,85 @@ use Rattle.image_form.proofs.HeaderLaws.{header_done}
 use Rattle.image_form.proofs.StoredLaws.{rows_length, flags_length}
 use Rattle.map_betas.specs.Guards.{reader_loans}
 use Rattle.image_reader.specs.Tests.{loans_test, blocks_test, image_test}
-use Rattle.image_reader.specs.Reads.{Read, read_out, wrote, test_of, read_within, Accepted}
+use Rattle.image_reader.specs.Reads.{Read, loaded, read_out, wrote, test_of, read_within, Accepted}
 use Rattle.image_reader.proofs.Accepted.{loans_pass, accepted_by}
+use Rattle.image_reader.proofs.Written.{tested, done_is}
 use Rattle.cell_steps.specs.Calls.{wiped}
-use Rattle.report_lines.specs.Report.{refused_line, map_text, answer_of, image_text, report_of, lists_over, leaves, report_leaves}
+use Rattle.report_lines.specs.Report.{refused_line, map_text, answer_of, tested_text, image_text, report_of, lists_over, leaves, report_leaves}
+use Rattle.std.specs.Prelude.{Ok, Err, is_ok}
+use Rattle.std.specs.Result.{result_and}
 
 module _ (bytes flags vertices : List ℕ) (coordinates : List Float) (rows : List ℕ) (rf : 1024 ≤ length flags) (rv : 1024 ≤ length vertices)
     (rc : 3072 ≤ length coordinates) (rr : 4096 ≤ length rows) where
-  abbrev test : Answer
+  abbrev test : Test
   test = test_of 1024 bytes flags vertices coordinates rows
 
   loans_are : darts_of bytes ≤ 1024 → pass ≡ loans_test (darts_of bytes) (length flags) (reader_loans (length vertices) (length coordinates)) (length rows)
   loans_are m =
-      loans_pass (darts_of bytes) (length flags) (reader_loans (length vertices) (length coordinates)) (length rows) pass
+      loans_pass (darts_of bytes) (length flags) (reader_loans (length vertices) (length coordinates)) (length rows)
       (loan_none (darts_of bytes) (length flags) (reader_loans (length vertices) (length coordinates)) (omega arith) (omega arith) (omega arith)
       (omega arith) (omega arith) (omega arith))
       refl (omega arith)
 
-  test_by : (b : Bool) → is_done (header_test 1024 bytes) ≡ b → test ≡ answer_of bytes
+  test_by : (h : Test) → header_test 1024 bytes ≡ h → test ≡ answer_of bytes
   unfolding image_test answer_of
-  test_by true e =
-      let h : Header form1 1024 bytes = header_done 1024 bytes e in
-      ap (λ (x : Answer). and_then (header_test 1024 bytes) (and_then x (blocks_test bytes (darts_of bytes) (vertices_of bytes)))) (sym (loans_are h.few))
-  test_by false e =
-      sym (stops (header_test 1024 bytes) (header_test 1024 bytes) _ refl e)
-      ∙ stops (header_test 1024 bytes) (header_test 1024 bytes) _ refl e
+  test_by (Ok x) e =
+      let h : Header form1 1024 bytes = header_done 1024 bytes (ap is_ok e) in
+      ap (λ (x : Test). result_and (header_test 1024 bytes) (result_and x (blocks_test bytes (darts_of bytes) (vertices_of bytes)))) (sym (loans_are h.few))
+  test_by (Err w) e =
+      ap (λ (h : Test). result_and h (result_and (loans_test (darts_of bytes) (length flags) (reader_loans (length vertices) (length coordinates)) (length rows))
+      (blocks_test bytes (darts_of bytes) (vertices_of bytes)))) e
+      ∙ sym (ap (λ (h : Test). result_and h (blocks_test bytes (darts_of bytes) (vertices_of bytes))) e)
 
   test_is : test ≡ answer_of bytes
-  test_is = test_by (is_done (header_test 1024 bytes)) refl
+  test_is = test_by (header_test 1024 bytes) refl
 
   module _ (a : Answer) (f v : List ℕ) (c : List Float) (r : List ℕ) (e : read_out a f v c r ≡ read_within 1024 bytes flags vertices coordinates rows) where
-    pub tested : is_done a ≡ is_done (answer_of bytes)
-    unfolding read_within wrote
-    tested = ap (λ (x : Read). is_done x.answer) e ∙ go (is_done test) refl ∙ ap is_done test_is
-      where
-        go : (b : Bool) → is_done test ≡ b →
-            is_done (cond b (wrote bytes (darts_of bytes) (vertices_of bytes) flags vertices coordinates rows)
-            (read_out test flags vertices coordinates rows)).answer ≡ is_done test
-        go true q = sym q
-        go false q = refl
+    module _ {w : Refusal} (d : a ≡ Err w) where
+      test_refused : test ≡ Err w
+      unfolding read_within wrote
+      test_refused = go test (sym (ap (λ (x : Read). x.answer) e) ∙ d)
+        where
+          go : (t : Test) → (behind t (loaded flags vertices coordinates rows)
+              (wrote bytes (darts_of bytes) (vertices_of bytes) flags vertices coordinates rows)).answer ≡ Err w → t ≡ Err w
+          go (Ok x) q = cc
+          go (Err u) q = cc
 
-    refused_answer : is_done a ≡ false → a ≡ answer_of bytes
-    unfolding read_within
-    refused_answer d =
-        let q : is_done test ≡ false = ap is_done test_is ∙ sym tested ∙ d in
-        let s : read_within 1024 bytes flags vertices coordinates rows ≡ read_out test flags vertices coordinates rows = simp q in
-        ap (λ (x : Read). x.answer) (e ∙ s) ∙ test_is
+      pub refused_is : (m : Bool) → m ≡ false → refused_line w ≡ report_of m bytes
+      unfolding report_of image_text
+      refused_is m em = simp (em, sym test_is ∙ test_refused)
 
-    pub refused_is : (m : Bool) → m ≡ false → is_done a ≡ false → refused_line a ≡ report_of m bytes
-    unfolding report_of image_text
-    refused_is m em d =
-        let q : is_done (answer_of bytes) ≡ false = sym tested ∙ d in
-        ap refused_line (refused_answer d) ∙ simp (em, q)
+      -- a refusal leaves all loans as they were
+      pub left_refused : (m : Bool) → m ≡ false → (marks queue output : List ℕ)
+          → leaves f v c r marks queue output ≡ report_leaves m bytes flags vertices coordinates rows marks queue output
+      unfolding read_within report_leaves
+      left_refused m em marks queue output =
+          let s : read_out a f v c r ≡ read_out (Err w) flags vertices coordinates rows =
+          e ∙ ap (λ (t : Test). behind t (loaded flags vertices coordinates rows)
+          (wrote bytes (darts_of bytes) (vertices_of bytes) flags vertices coordinates rows)) test_refused in
+          let k : is_ok (answer_of bytes) ≡ false = ap is_ok (sym test_is ∙ test_refused) in
+          ap (λ (x : Read). leaves x.loans.flags x.loans.vertices x.loans.coordinates x.loans.rows marks queue output) s ∙ simp (em, k)
 
-    -- a refusal leaves all loans as they were
-    pub left_refused : (m : Bool) → m ≡ false → is_done a ≡ false → (marks queue output : List ℕ)
-        → leaves f v c r marks queue output ≡ report_leaves m bytes flags vertices coordinates rows marks queue output
-    unfolding read_within report_leaves
-    left_refused m em d marks queue output =
-        let q : is_done test ≡ false = ap is_done test_is ∙ sym tested ∙ d in
-        let s : read_out a f v c r ≡ read_out test flags vertices coordinates rows = e ∙ simp q in
-        let k : is_done (answer_of bytes) ≡ false = sym tested ∙ d in
-        ap (λ (x : Read). leaves x.loans.flags x.loans.vertices x.loans.coordinates x.loans.rows marks queue output) s ∙ simp (em, k)
+    module _ {x : Done} (d : a ≡ Ok x) where
+      passed : is_ok test ≡ true
+      passed = sym (tested 1024 bytes flags vertices coordinates rows) ∙ sym (ap (λ (x : Read). is_ok x.answer) e) ∙ ap is_ok d
 
-    module _ (d : is_done a ≡ true) where
-      passed : is_done test ≡ true
-      passed = ap is_done test_is ∙ sym tested ∙ d
+      answered : is_ok (answer_of bytes) ≡ true
+      answered = ap is_ok (sym test_is) ∙ passed
 
       pub fit : Accepted 1024 bytes flags vertices coordinates rows
       fit = accepted_by 1024 bytes flags vertices coordinates rows (omega arith) passed
 
       written : read_out a f v c r ≡ wrote bytes (darts_of bytes) (vertices_of bytes) flags vertices coordinates rows
-      unfolding read_within
-      written = e ∙ simp passed
+      written = e ∙ done_is 1024 bytes flags vertices coordinates rows passed
+
+      pub darts_are : x.count ≡ darts_of bytes
+      unfolding wrote
+      darts_are = ap count (sym d ∙ ap (λ (x : Read). x.answer) written)
+        where
+          count : Answer → ℕ
+          count (Ok x) = x.count
+          count (Err w) = 0
 
       pub rows_are : (n : ℕ) → n ≡ darts_of bytes → take (4 * n) r ≡ rows_of bytes (darts_of bytes)
       unfolding wrote
@@ -125,11 +130,15 @@ module _ (bytes flags vertices : List ℕ) (coordinates : List Float) (rows : Li
       pub flags_n : (n : ℕ) → n ≡ darts_of bytes → length (take n f) ≡ darts_of bytes
       flags_n n en = ap length (flags_are n en) ∙ flags_length bytes (darts_of bytes)
 
-      pub done_is : (m : Bool) → m ≡ false → (n : ℕ) → n ≡ darts_of bytes → map_text (take (4 * n) r) (take n f) ≡ report_of m bytes
+      pub report_is : (m : Bool) → m ≡ false → (n : ℕ) → n ≡ darts_of bytes → map_text (take (4 * n) r) (take n f) ≡ report_of m bytes
       unfolding report_of image_text
-      done_is m em n en =
-          let q : is_done (answer_of bytes) ≡ true = sym tested ∙ d in
-          ap (λ (x : List ℕ). map_text x (take n f)) (rows_are n en) ∙ ap (map_text (rows_of bytes (darts_of bytes))) (flags_are n en) ∙ simp (em, q)
+      report_is m em n en =
+          ap (λ (x : List ℕ). map_text x (take n f)) (rows_are n en) ∙ ap (map_text (rows_of bytes (darts_of bytes))) (flags_are n en)
+          ∙ go (answer_of bytes) answered ∙ simp em
+        where
+          go : (t : Test) → is_ok t ≡ true → {l : List ℕ} → l ≡ tested_text t l
+          go (Ok x) q = refl
+          go (Err u) q = absurd (true≢false (sym q))
 
       -- an image that is read leaves what the reader wrote, and what the lists leave
       pub left_done : (m : Bool) → m ≡ false → (n : ℕ) → n ≡ darts_of bytes → (marks queue output marks' queue' output' : List ℕ) →
@@ -138,7 +147,6 @@ module _ (bytes flags vertices : List ℕ) (coordinates : List Float) (rows : Li
           leaves f v c r marks' queue' output' ≡ report_leaves m bytes flags vertices coordinates rows marks queue output
       unfolding report_leaves
       left_done m em n en marks queue output marks' queue' output' a-is b-is c-is =
-          let k : is_done (answer_of bytes) ≡ true = sym tested ∙ d in
           let n-is : darts (take (4 * n) r) ≡ darts_of bytes = omega (arith, rows_n n en) in
           let m-is : marks' ≡ wiped (darts_of bytes) marks = a-is ∙ ap (λ (i : ℕ). wiped i marks) n-is in
           let q-is : queue' ≡ wiped (darts_of bytes) queue = b-is ∙ ap (λ (i : ℕ). wiped i queue) n-is in
@@ -151,7 +159,7 @@ module _ (bytes flags vertices : List ℕ) (coordinates : List Float) (rows : Li
           (wrote bytes (darts_of bytes) (vertices_of bytes) flags vertices coordinates rows).loans.vertices
           (wrote bytes (darts_of bytes) (vertices_of bytes) flags vertices coordinates rows).loans.coordinates
           (wrote bytes (darts_of bytes) (vertices_of bytes) flags vertices coordinates rows).loans.rows (m-is t) (q-is t) (o_is t))
-          ∙ simp (em, k)
+          ∙ simp (em, answered)
 
 -- input that is too long leaves all loans as they were
 pub left_more : (bytes : List ℕ) (m : Bool) → m ≡ true → (flags vertices : List ℕ) (coordinates : List Float) (rows marks queue output : List ℕ) →
@@ -159,6 +167,6 @@ pub left_more : (bytes : List ℕ) (m : Bool) → m ≡ true → (flags vertices
 unfolding report_leaves
 left_more bytes m e flags vertices coordinates rows marks queue output = simp e
 
-pub more_is : (bytes : List ℕ) (m : Bool) → m ≡ true → refused_line (Refused (BadImage 2)) ≡ report_of m bytes
+pub more_is : (bytes : List ℕ) (m : Bool) → m ≡ true → refused_line (BadImage 2) ≡ report_of m bytes
 unfolding report_of
 more_is bytes m e = simp e

@@ -1,15 +1,14 @@
 -- How long the lines of the report are at most. Assumes nothing.
 --   value_length, decimal_room, value_room   a number of 64 bits has at most 20 digits, and a number with its space has at most 21 bytes
---   items_front    the first numbers of a list, whatever stands behind it
 --   items_short    k numbers below 10,000 have at most 5k bytes with their spaces
 --   list_count, list_small   a list has fewer identifiers than darts, and each is a dart
 --   class_room     the line of a class has at most 5,122 bytes beside its name, where there are at most 1,024 darts
 use Prim.Native.Nat.{ℕ, zero, suc, ◌+◌, ◌-◌, ◌*◌, ◌<◌, ◌≤◌}
 use native.Mathlib.Omega.{arith}
-use mathlib.Core.Path.{◌≡◌, refl, ap, ◌∙◌}
+use mathlib.Core.Path.{◌≡◌, refl}
 use mathlib.Core.Bool.{Bool, true, false, cond, ◌&&◌}
-use mathlib.Core.List.{List, [], ◌∷◌, ◌++◌}
-use lib.ListN.{length, get_or, length-append, get_or-append}
+use mathlib.Core.List.{List, [], ◌∷◌}
+use lib.ListN.{length, get_or, length-append}
 use lib.Dec.{eqb}
 use Rattle.map_betas.specs.Betas.{darts}
 use Rattle.cell_steps.specs.Steps.{vertex, edge, volume}
@@ -56,15 +55,6 @@ items_short list (suc k) h =
     let s = short (get_or list k 0) (h k) in
     let n = items_short list k h in
     omega arith
-
-pub items_front : (l r : List ℕ) (k : ℕ) → k ≤ length l → items_of (l ++ r) k ≡ items_of l k
-unfolding items_of
-items_front l r zero h = refl
-items_front l r (suc k) h =
-    let n : items_of (l ++ r) k ≡ items_of l k = items_front l r k (omega arith) in
-    let g : get_or (l ++ r) k 0 ≡ get_or l k 0 = get_or-append l r 0 k (omega arith) in
-    ap (λ (x : List ℕ). (x ++ (32 ∷ [])) ++ decimal (get_or (l ++ r) k 0)) n
-    ∙ ap (λ (x : ℕ). (items_of l k ++ (32 ∷ [])) ++ decimal x) g
 
 -- the lists of cells
 

@@ -7,17 +7,17 @@
 --   class_line name class rows flags   the line of a class of cells
 --   map_text rows flags   the five lines of a map
 --   most                 the most darts that the report takes
---   answer_of bytes       the reader's answer to an image of at most `most` darts, its loans long enough
+--   answer_of bytes       how an image of at most `most` darts passes the reader's tests, its loans long enough
+--   tested_text           a text, or the line of the refusal that stands in its place
 --   image_text bytes      the text of an image: five lines, or one that says what refuses it
 --   report_of more bytes  the whole report; `more` says that the input has more than 46,080 bytes
 --   lists_over            an output with the four lists in its first places, each over the one before it
 --   ReportLoans, leaves, report_leaves   what the report leaves in its other loans
-use Rattle.std.specs.Prelude.{ℕ, zero, suc, ◌+◌, ◌-◌, List, [], ◌∷◌, ◌++◌, Bool, cond, not, ◌&&◌, length, get_or, Float, eqb}
-use Rattle.map_betas.specs.declared.error.Answer.{Answer}
-use Rattle.map_betas.specs.declared.error.Answer.TheVariants.{Refused}
+use Rattle.std.specs.Prelude.{ℕ, zero, suc, ◌+◌, ◌-◌, List, [], ◌∷◌, ◌++◌, Bool, cond, not, ◌&&◌, length, get_or, Float, eqb, Ok, Err, is_ok}
 use Rattle.map_betas.specs.declared.error.Refusal.TheVariants.{BadImage}
+use Rattle.map_betas.specs.declared.error.Refusal.{Refusal}
 use Rattle.map_betas.specs.declared.error.Told.{Told}
-use Rattle.map_betas.specs.Answers.{is_done, and_then, tell_of}
+use Rattle.map_betas.specs.Answers.{refusal_of, Test}
 use Rattle.map_betas.specs.Betas.{darts}
 use Rattle.image_form.specs.Form.{darts_of, vertices_of, rows_of, flags_of}
 use Rattle.image_form.specs.Tests.{header_test}
@@ -28,6 +28,7 @@ use Rattle.cell_steps.specs.declared.cells.Class.{Class}
 use Rattle.cell_steps.specs.declared.cells.Class.TheVariants.{Vertex, Edge, Face, Volume}
 use Rattle.cell_names.specs.Cells.{list_of}
 use Rattle.report_text.specs.Texts.{decimal, line_of}
+use Rattle.std.specs.Result.{result_and}
 
 unfoldable pub value_of : ℕ → List ℕ
 value_of x = (32 ∷ []) ++ decimal x
@@ -59,8 +60,8 @@ unfoldable pub told_line : Told → List ℕ
 told_line t =
     ((((refused_word ++ value_of t.number) ++ value_of t.first) ++ value_of t.second) ++ value_of t.third) ++ (10 ∷ [])
 
-abbrev pub refused_line : Answer → List ℕ
-refused_line a = told_line (tell_of a)
+abbrev pub refused_line : Refusal → List ℕ
+refused_line w = told_line (refusal_of w)
 
 -- a flag that is not 0 means unused
 unfoldable pub used_up_to : List ℕ → ℕ → ℕ
@@ -86,17 +87,22 @@ map_text rows flags =
 abbrev pub most : ℕ
 most = 1024
 
-unfoldable pub answer_of : List ℕ → Answer
-answer_of bytes = and_then (header_test most bytes) (blocks_test bytes (darts_of bytes) (vertices_of bytes))
+unfoldable pub answer_of : List ℕ → Test
+answer_of bytes = result_and (header_test most bytes) (blocks_test bytes (darts_of bytes) (vertices_of bytes))
+
+-- what passes has a text; what does not, the line of its refusal
+abbrev pub tested_text : Test → List ℕ → List ℕ
+tested_text (Ok x) text = text
+tested_text (Err w) text = refused_line w
 
 unfoldable pub image_text : List ℕ → List ℕ
 image_text bytes =
     let n = darts_of bytes in
-    cond (is_done (answer_of bytes)) (map_text (rows_of bytes n) (flags_of bytes n)) (refused_line (answer_of bytes))
+    tested_text (answer_of bytes) (map_text (rows_of bytes n) (flags_of bytes n))
 
 -- scope: report. Input that is longer than the program's buffer is refused before it is looked at.
 unfoldable pub report_of : Bool → List ℕ → List ℕ
-report_of more bytes = cond more (refused_line (Refused (BadImage 2))) (image_text bytes)
+report_of more bytes = cond more (refused_line (BadImage 2)) (image_text bytes)
 
 -- ---- what the report leaves in its other loans
 
@@ -123,7 +129,7 @@ unfoldable pub report_leaves : Bool → List ℕ → List ℕ → List ℕ → L
 report_leaves more bytes flags vertices coordinates rows marks queue output =
     let n = darts_of bytes in
     let read = wrote bytes n (vertices_of bytes) flags vertices coordinates rows in
-    cond (not more && is_done (answer_of bytes))
+    cond (not more && is_ok (answer_of bytes))
     (leaves read.loans.flags read.loans.vertices read.loans.coordinates read.loans.rows (wiped n marks) (wiped n queue)
     (lists_over (rows_of bytes n) (flags_of bytes n) output))
     (leaves flags vertices coordinates rows marks queue output)

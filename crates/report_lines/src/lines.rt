@@ -1,17 +1,15 @@
 // The lines of the report.
 ghost use Rattle.std.specs.Prelude.{◌≡◌, ◌+◌, ◌-◌, ◌<◌, ◌≤◌, length};
 ghost use Rattle.map_betas.specs.Betas.{darts};
-ghost use Rattle.map_betas.specs.Maps.{WellFormed};
 ghost use Rattle.report_text.specs.Texts.{put, lay};
-ghost use Rattle.report_lines.specs.Report.{value_of, refused_line, used_up_to, head_line, class_line};
+ghost use Rattle.report_lines.specs.Report.{value_of, told_line, used_up_to, head_line, class_line};
 ghost use Rattle.cell_steps.specs.Calls.{wiped, headed};
 ghost use Rattle.cell_names.specs.Cells.{list_of};
 
 use cell_names::enumerators::cells_core;
-use cell_scratch::scratch::wipe_marks;
 use cell_steps::cells::Class;
-use map_answers::told::tell;
-use map_betas::error::Answer;
+use map_betas::error::Told;
+use map_betas::rows::Rows;
 use report_text::{put_byte, put_bytes, put_line, put_number};
 
 // Writes a number after one space.
@@ -23,17 +21,16 @@ fn put_value(text: &mut [u8], at: usize, x: u64) -> usize
     put_number(text, p, x)
 }
 
-// Writes the line of a refusal: its number and its three values.
-pub fn put_refusal(text: &mut [u8], at: usize, a: Answer) -> usize
+// Writes the line of a refusal, from its number and its three values.
+pub fn put_refusal(text: &mut [u8], at: usize, told: Told) -> usize
     requires { at + 92 ≤ length text.old }
-    ensures { (put result text.new ≡ lay text.old at (refused_line a)) × (result ≤ at + 92) }
+    ensures { (put result text.new ≡ lay text.old at (told_line told)) × (result ≤ at + 92) }
 {
-    let t = tell(a);
     let p = put_bytes(text, at, b"refused");
-    let q = put_value(text, p, t.number as u64);
-    let first = put_value(text, q, t.first);
-    let second = put_value(text, first, t.second);
-    let third = put_value(text, second, t.third);
+    let q = put_value(text, p, u64::from(told.number));
+    let first = put_value(text, q, told.first);
+    let second = put_value(text, first, told.second);
+    let third = put_value(text, second, told.third);
     put_byte(text, third, b'\n')
 }
 
@@ -43,12 +40,10 @@ pub fn count_used(flags: &[u8], n: usize) -> usize
     ensures { (result ≡ used_up_to flags.now (n - 1)) × (result < n) }
 {
     let mut used = 0;
-    let mut d = 1;
-    while d < n {
+    for d in 1..n {
         if flags[d] == 0 {
             used += 1;
         }
-        d += 1;
     }
     used
 }
@@ -67,7 +62,7 @@ pub fn put_head(text: &mut [u8], at: usize, n: usize, used: usize) -> usize
 
 // Writes the line of a class of cells: the list, by wiped marks, and its text.
 pub fn put_class(
-    rows: &[u32],
+    rows: Rows,
     flags: &[u8],
     marks: &mut [u8],
     queue: &mut [u32],
@@ -77,16 +72,16 @@ pub fn put_class(
     class: Class,
     name: &[u8],
 ) -> usize
-    requires { WellFormed rows.now × (darts rows.now ≤ 1024) × (darts rows.now ≤ length marks.old) × (darts rows.now ≤ length queue.old)
-        × (darts rows.now ≤ length output.old) × (darts rows.now ≤ length flags.now) × (at + length name.now + 5122 ≤ length text.old) }
-    ensures text_after { (put result text.new ≡ lay text.old at (class_line name.now class rows.now flags.now))
+    requires { (darts rows.list.now ≤ 1024) × (darts rows.list.now ≤ length marks.old) × (darts rows.list.now ≤ length queue.old)
+        × (darts rows.list.now ≤ length output.old) × (darts rows.list.now ≤ length flags.now) × (at + length name.now + 5122 ≤ length text.old) }
+    ensures text_after { (put result text.new ≡ lay text.old at (class_line name.now class rows.entry.list.now flags.now))
         × (result ≤ at + length name.now + 5122) }
-    ensures marks_after { (marks.new ≡ wiped (darts rows.now) marks.old)
-        × (queue.new ≡ wiped (darts rows.now) queue.old)
-        × (output.new ≡ headed (list_of class rows.now flags.now) output.old) }
+    ensures marks_after { (marks.new ≡ wiped (darts rows.entry.list.now) marks.old)
+        × (queue.new ≡ wiped (darts rows.entry.list.now) queue.old)
+        × (output.new ≡ headed (list_of class rows.entry.list.now flags.now) output.old) }
 {
-    let n = rows.len() / 4;
-    wipe_marks(marks, n);
+    let n = rows.darts();
+    marks[..n].fill(0);
     let count = cells_core(rows, &mut marks[..n], queue, output, flags, class);
-    put_line(text, at, name, output, count)
+    put_line(text, at, name, &output[..count])
 }

@@ -1,10 +1,11 @@
 -- The laws of text in a buffer. Assumes nothing.
 --   lay_none           nothing is written
 --   lay_byte           one byte is stored behind what is written
+--   lay_part           a text is put into a part of the buffer
 --   lay_then           text behind text
 --   decimal_one, decimal_more   the last digit, and what is above it
 --   items_none, items_more   a list, one number on
-use Prim.Native.Nat.{ℕ, zero, suc, ◌+◌, ◌*◌, ◌/◌, ◌%◌, ◌<◌, ◌≤◌}
+use Prim.Native.Nat.{ℕ, zero, suc, ◌+◌, ◌*◌, ◌/◌, ◌%◌, ◌-◌, ◌<◌, ◌≤◌}
 use native.Mathlib.Omega.{arith}
 use native.Mathlib.Numerals.{add-one}
 use native.Mathlib.Decide.{ℕ_discrete}
@@ -13,8 +14,11 @@ use mathlib.Core.Path.{◌≡◌, refl, sym, ap, ◌∙◌}
 use mathlib.Core.List.{List, [], ◌∷◌, ◌++◌, append_assoc}
 use mathlib.Core.Bool.{cond}
 use lib.ListN.{length, get_or, take, drop, set, length-append, take-append-drop}
-use lib.Seq.{take_at, drop-append-add, drop-drop, drop-cons, set_at, length-take-le, take-suc, take-length}
+use lib.Seq.{take_at, drop-append-add, drop-drop, drop-cons, set_at, length-take-le}
 use lib.Dec.{ltb}
+use borrow.Rule.Slice.PartMut.{put_mid}
+use Rattle.std.proofs.lemmas.Slice.{put_mid-paste}
+use Rattle.std.proofs.lemmas.List.Edits.{paste_all}
 use borrow.Author.Tests.{lt-ltb, le-ltb}
 use Rattle.report_text.specs.Texts.{digits, decimal, laid, Put, put, lay, items_of, line_of}
 
@@ -116,27 +120,16 @@ decimal_more x l h =
     let u : digits 19 x ≡ digits 18 (x / 10) ++ ((48 + x % 10) ∷ []) = simp (le-ltb x 10 l) in
     u ∙ ap (λ (r : List ℕ). r ++ ((48 + x % 10) ∷ [])) (sym e)
 
--- one byte of a text stored in the code: i of its bytes are written
-pub laid_step : (out : List ℕ) (at : ℕ) (text l : List ℕ) (i : ℕ) → at + length text ≤ length out → i < length text → l ≡ laid out at (take i text) →
-    set l (at + i) (get_or text i 0) ≡ laid out at (take (i + 1) text)
-laid_step out at text l i room h e =
-    let t : length (take i text) ≡ i = length-take-le i text (omega arith) in
-    let p : at + i ≡ at + length (take i text) = omega arith in
-    let s : take i text ++ (get_or text i 0 ∷ []) ≡ take (i + 1) text = sym (take-suc text i 0 h) ∙ ap (λ (k : ℕ). take k text) (sym (add-one i)) in
-    ap (λ (x : List ℕ). set x (at + i) (get_or text i 0)) e
-    ∙ ap (λ (k : ℕ). set (laid out at (take i text)) k (get_or text i 0)) p
-    ∙ laid_more out at (take i text) (get_or text i 0) (omega arith)
-    ∙ ap (laid out at) s
-
-pub laid_start : (out : List ℕ) (at : ℕ) (text : List ℕ) → out ≡ laid out at (take 0 text)
-laid_start out at text = laid_none out at
-
-pub laid_end : (out : List ℕ) (at : ℕ) (text l : List ℕ) (n i : ℕ) → n ≡ length text → i ≡ n → l ≡ laid out at (take i text) → put (at + n) l ≡ lay out at text
-unfolding lay
-laid_end out at text l n i en ei e =
-    let p : i ≡ length text = ei ∙ en in
-    let t : take i text ≡ text = ap (λ (k : ℕ). take k text) p ∙ take-length text in
-    ap (λ (k : ℕ). put (at + k) l) en ∙ ap (put (at + length text)) (e ∙ ap (laid out at) t)
+-- a text put into a part of the buffer
+pub lay_part : (out : List ℕ) (at : ℕ) (text : List ℕ) {p : List ℕ} {e : ℕ} → e ≡ at + length text → e ≤ length out → p ≡ text →
+    put e (put_mid at (e - at) out p) ≡ lay out at text
+unfolding lay laid
+lay_part out at text {p} {e} w h q =
+    let n : length text ≡ e - at = omega arith in
+    let m : put_mid at (e - at) out p ≡ (take at out ++ text) ++ drop (at + length text) out =
+    put_mid-paste at (e - at) out p text (length text) q n refl ∙ paste_all out at text (length text) refl
+    ∙ sym (append_assoc (take at out) text (drop (at + length text) out)) in
+    ap (λ (k : ℕ). put k (put_mid at (e - at) out p)) w ∙ ap (put (at + length text)) m
 
 -- where x has room, what is above its last digit has, with one place left
 pub decimal_room : (x at n : ℕ) → 10 ≤ x → x < 18446744073709551616 → at + length (decimal x) ≤ n → at + length (decimal (x / 10)) < n

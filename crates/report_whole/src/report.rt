@@ -3,10 +3,9 @@ ghost use Rattle.std.specs.Prelude.{◌≡◌, ◌≤◌, length};
 ghost use Rattle.report_text.specs.Texts.{put, lay};
 ghost use Rattle.report_lines.specs.Report.{report_of, leaves, report_leaves};
 
-use image_form::form::DARTS_AT;
 use image_reader::reader::read_within;
-use image_words::word_at;
-use map_betas::error::{Answer, Refusal, is_done};
+use map_betas::error::{Refusal, Told};
+use map_betas::rows::Rows;
 use report_lines::lines::put_refusal;
 use report_map::put_map;
 
@@ -35,12 +34,16 @@ pub fn report_text(
         marks.old queue.old output.old }
 {
     if more {
-        return put_refusal(text, 0, Answer::Refused(Refusal::BadImage(2)));
+        return put_refusal(text, 0, Told::from(Refusal::BadImage(2)));
     }
-    let a = read_within(bytes, MOST, flags, vertices, coordinates, rows);
-    if !is_done(a) {
-        return put_refusal(text, 0, a);
+    match read_within(bytes, MOST, flags, vertices, coordinates, rows) {
+        Ok(done) => {
+            let n = done.count;
+            let map = Rows {
+                list: &rows[..4 * n],
+            };
+            put_map(map, &flags[..n], marks, queue, output, text)
+        }
+        Err(refusal) => put_refusal(text, 0, Told::from(refusal)),
     }
-    let n = word_at(bytes, DARTS_AT) as usize;
-    put_map(&rows[..4 * n], &flags[..n], marks, queue, output, text)
 }

@@ -1,66 +1,36 @@
 // A command's answer as the five numbers that the output holds.
-ghost use Rattle.std.specs.Prelude.{◌≡◌, ◌+◌, ◌*◌, ◌≤◌, length};
-ghost use Rattle.map_betas.specs.declared.error.Answer.TheVariants.{Refused};
-ghost use Rattle.sew_answers.specs.Words.{answer_width, words_at, words_of, count_of, answered, Fits, FitsRefusal};
+ghost use Rattle.std.specs.Prelude.{◌≡◌, ◌+◌, ◌*◌, ◌≤◌, length, Err};
+ghost use Rattle.sew_answers.specs.Words.{answer_width, answer_words, count_of, answered, Fits, FitsRefusal};
 
-use map_betas::error::{Answer, Refusal};
+use map_betas::error::{Answer, Refusal, Told};
 
 // The numbers that one answer takes.
 pub const WIDTH: usize = 5;
 
-// An answer's number, its three values, and the entries that the command has written.
-#[derive(Clone, Copy)]
-pub struct Words {
-    pub number: u32,
-    pub first: u32,
-    pub second: u32,
-    pub third: u32,
-    pub entries: u32,
-}
-
-fn numbers(number: u32, first: u32, second: u32, third: u32, entries: u32) -> Words
-    ensures { result ≡ words_at number first second third entries }
-{
-    Words {
-        number,
-        first,
-        second,
-        third,
-        entries,
-    }
-}
-
 // A refusal's numbers: it has written nothing.
-fn refused_words(w: Refusal) -> Words
+// Stays: a method, since `From` asks nothing of its caller and a length in a refusal has to fit its number.
+fn refused_words(w: Refusal) -> [u32; WIDTH]
     requires { FitsRefusal w }
-    ensures { result ≡ words_of (Refused w) }
+    ensures { result ≡ answer_words (Err w) }
 {
-    match w {
-        Refusal::BadSize(k) => numbers(1, k as u32, 0, 0, 0),
-        Refusal::ShortLoan(k) => numbers(2, k, 0, 0, 0),
-        Refusal::NotAMap(i, d) => numbers(3, i, d, 0, 0),
-        Refusal::BadDart(k) => numbers(4, k, 0, 0, 0),
-        Refusal::BadBeta(i) => numbers(5, i, 0, 0, 0),
-        Refusal::NonFreeBase(i, l, r) => numbers(6, i, l, r, 0),
-        Refusal::NonFreeImage(i, l, r) => numbers(7, i, l, r, 0),
-        Refusal::AlreadyFree(i, d) => numbers(8, i, d, 0, 0),
-        Refusal::AsymmetricalFaces(l, r) => numbers(9, l, r, 0, 0),
-        Refusal::BadGeometry(i, l, r) => numbers(10, i, l, r, 0),
-        Refusal::PlanRoom(k) => numbers(11, k as u32, 0, 0, 0),
-        Refusal::BadImage(k) => numbers(12, k, 0, 0, 0),
-        Refusal::BadCommand(k) => numbers(13, k, 0, 0, 0),
-        Refusal::ImageRoom(k) => numbers(14, k as u32, 0, 0, 0),
-    }
+    let told = Told::from(w);
+    [
+        told.number,
+        told.first as u32,
+        told.second as u32,
+        told.third as u32,
+        0,
+    ]
 }
 
-// An answer's numbers. Done, only the dart is a value, and the count of entries stands last.
-fn words_of(a: Answer) -> Words
+// An answer's five numbers: its number, its three values, and the entries that the command has written. Done, only the dart is a value.
+fn words_of(a: Answer) -> [u32; WIDTH]
     requires { Fits a }
-    ensures { result ≡ words_of a }
+    ensures { result ≡ answer_words a }
 {
     match a {
-        Answer::Done(d, k) => numbers(0, d, 0, 0, k as u32),
-        Answer::Refused(w) => refused_words(w),
+        Ok(done) => [0, done.value, 0, 0, done.count as u32],
+        Err(w) => refused_words(w),
     }
 }
 
@@ -69,8 +39,8 @@ pub fn count_of(a: Answer) -> usize
     ensures { result ≡ count_of a }
 {
     match a {
-        Answer::Done(_, k) => k,
-        Answer::Refused(_) => 0,
+        Ok(done) => done.count,
+        Err(_) => 0,
     }
 }
 
@@ -79,11 +49,6 @@ pub fn put_answer(output: &mut [u32], k: usize, a: Answer)
     requires { (answer_width * k + answer_width ≤ length output.old) × Fits a }
     ensures { output.new ≡ answered output.old k a }
 {
-    let w = words_of(a);
     let p = WIDTH * k;
-    output[p] = w.number;
-    output[p + 1] = w.first;
-    output[p + 2] = w.second;
-    output[p + 3] = w.third;
-    output[p + 4] = w.entries;
+    output[p..p + WIDTH].copy_from_slice(&words_of(a));
 }

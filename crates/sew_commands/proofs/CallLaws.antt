@@ -3,7 +3,6 @@
 --   lent_long       the loans that a list's calls are lent are long enough, and there is room for every answer
 --   long_same       loans for rows of the same length
 --   called_made     on a map a list of calls is what the code makes
---   list_left       what the call leaves where its list is made, from what the code has left
 --   list_broken, list_no_map, list_all   the ways in which it ends behind the tests of size and loans
 -- Assumes nothing.
 use Prim.Native.Nat.{ℕ, ◌*◌, ◌/◌, ◌%◌, ◌≤◌}
@@ -16,26 +15,26 @@ use lib.Dec.{leb}
 use lib.Ieee.{Float}
 use lib.ListN.{length}
 use borrow.Author.Tests.{leb-true, eq-eqb, ne_eqb}
-use Rattle.map_betas.specs.declared.error.Answer.{Answer}
-use Rattle.map_betas.specs.declared.error.Answer.TheVariants.{Done, Refused}
 use Rattle.map_betas.specs.declared.error.Refusal.TheVariants.{BadCommand}
 use Rattle.map_betas.specs.declared.loans.Loans.{Loans}
 use Rattle.map_betas.specs.Betas.{darts}
-use Rattle.map_betas.specs.Answers.{is_done, Outcome, outcome}
+use Rattle.map_betas.specs.Answers.{Outcome, outcome, Answer, Test}
 use Rattle.map_betas.specs.Maps.{Sized, size_test, map_test, Map, Stays}
 use Rattle.map_betas.specs.Guards.{enough, counted_as, Lent}
-use Rattle.map_betas.proofs.AnswerLaws.{first_done, then_done, outcome_is}
+use Rattle.map_betas.proofs.AnswerLaws.{first_done, then_done, behind_refused}
 use Rattle.map_betas.proofs.Formed.{size_done}
 use Rattle.map_betas.proofs.GuardLaws.{lent}
 use Rattle.cell_steps.specs.Calls.{wiped}
 use Rattle.sew_answers.specs.Words.{answer_width}
 use Rattle.sew_commands.specs.Commands.{Lending, lending, LongEnough, called, run}
-use Rattle.sew_commands.specs.Lists.{Made, made, Turn, turn, filled}
+use Rattle.sew_commands.specs.Lists.{Made, made, filled}
 use Rattle.sew_commands.specs.Calls.{CommandLoans, loans_for, commands_lent, list_done, list_tested}
 use Rattle.sew_commands.proofs.CommandLaws.{called_on_map, run_kept}
 use Rattle.sew_commands.proofs.ListLaws.{made_same}
+use Rattle.std.specs.Prelude.{⊤, Ok, Err, is_ok, IsErrAnd}
+use Rattle.map_betas.specs.declared.error.Refusal.{Refusal}
 
-pub lent_done : (rows flags : List ℕ) (loans : Loans) → is_done (commands_lent rows flags loans) ≡ true →
+pub lent_done : (rows flags : List ℕ) (loans : Loans) → is_ok (commands_lent rows flags loans) ≡ true →
     Sized rows × (darts rows ≤ length flags) × Lent (darts rows) loans
 unfolding commands_lent
 lent_done rows flags loans t =
@@ -79,26 +78,22 @@ called_made lent list rows plan m long =
     (r.0, r.1 ∙ k.1))
     list rows plan (m, refl)
 
--- what the code leaves of a list: scratch was wiped, and given back so
-pub list_left : (n : ℕ) (marks queue : List ℕ) (t : Turn) (entries : ℕ) (rows₁ marks₁ queue₁ output₁ plan₁ : List ℕ) → turn entries rows₁ output₁ plan₁ ≡ t →
-    marks₁ ≡ wiped n marks → queue₁ ≡ wiped n queue → outcome (Done 0 entries) (rows₁, marks₁, queue₁, output₁, plan₁) ≡ list_done n marks queue t
-list_left n marks queue t entries rows₁ marks₁ queue₁ output₁ plan₁ e em eq =
-    outcome_is (ap (λ (x : Turn). Done 0 x.written) e) (λ i. ((e i).rows, em i, eq i, (e i).output, (e i).plan))
-
 -- ---- behind the tests of size and loans
 
 module _ (rows marks queue output flags vertices : List ℕ) (coordinates : List Float) (plan list : List ℕ) where
   pub list_broken : length list % 3 ≢ 0 → (marks₁ queue₁ : List ℕ) → marks₁ ≡ wiped (darts rows) marks → queue₁ ≡ wiped (darts rows) queue →
-      outcome (Refused (BadCommand 0)) (rows, marks₁, queue₁, output, plan) ≡ list_tested rows marks queue output flags vertices coordinates plan list
+      outcome (Err (BadCommand 0)) (rows, marks₁, queue₁, output, plan) ≡ list_tested rows marks queue output flags vertices coordinates plan list
   unfolding list_tested
   list_broken h marks₁ queue₁ em eq = simp (em, eq, ne_eqb (length list % 3) 0 h)
 
-  module _ (h : length list % 3 ≡ 0) (g : Answer) (e : g ≡ map_test rows flags) where
-    pub list_no_map : is_done g ≡ false → outcome g (rows, marks, queue, output, plan) ≡ list_tested rows marks queue output flags vertices coordinates plan list
+  module _ (h : length list % 3 ≡ 0) {g : Test} (e : g ≡ map_test rows flags) where
+    -- r is what a `?` returns
+    pub list_no_map : {w : Refusal} (r : Answer) → g ≡ Err w → IsErrAnd r (λ x. x ≡ w) →
+        outcome r (rows, marks, queue, output, plan) ≡ list_tested rows marks queue output flags vertices coordinates plan list
     unfolding list_tested
-    list_no_map t = simp (eq-eqb (length list % 3) 0 h, ← e, t)
+    list_no_map r t q = rw (eq-eqb (length list % 3) 0 h) (behind_refused e _ _ r t q)
 
-    pub list_all : (o : Outcome CommandLoans) → is_done g ≡ true → Map rows flags → LongEnough (darts rows) (lending marks queue flags vertices coordinates) →
+    pub list_all : {x : ⊤} (o : Outcome CommandLoans) → g ≡ Ok x → Map rows flags → LongEnough (darts rows) (lending marks queue flags vertices coordinates) →
         o ≡ list_done (darts rows) marks queue (filled output (made (run flags vertices coordinates) list rows plan)) →
         o ≡ list_tested rows marks queue output flags vertices coordinates plan list
     unfolding list_tested
@@ -106,4 +101,4 @@ module _ (rows marks queue output flags vertices : List ℕ) (coordinates : List
         q
         ∙ ap (λ (x : Made). list_done (darts rows) marks queue (filled output x))
         (sym (called_made (lending marks queue flags vertices coordinates) list rows plan m long))
-        ∙ simp (eq-eqb (length list % 3) 0 h, ← e, t)
+        ∙ rw (eq-eqb (length list % 3) 0 h, ← e, t) refl

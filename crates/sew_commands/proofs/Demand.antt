@@ -26,11 +26,9 @@ use lib.Ieee.{Float}
 use lib.ListN.{length, take, drop, length-append, length-drop}
 use lib.Seq.{take_at}
 use borrow.Author.Tests.{le-leb, eq-eqb, eqb-true}
-use Rattle.map_betas.specs.declared.error.Answer.{Answer}
-use Rattle.map_betas.specs.declared.error.Answer.TheVariants.{Done, Refused}
 use Rattle.map_betas.specs.declared.error.Refusal.TheVariants.{BadCommand}
 use Rattle.map_betas.specs.Betas.{darts}
-use Rattle.map_betas.specs.Answers.{pass, is_done, and_then, Outcome, outcome, behind}
+use Rattle.map_betas.specs.Answers.{pass, nothing, Outcome, outcome, behind, Answer, Test, done}
 use Rattle.map_betas.specs.Maps.{size_test, map_test, Map, Stays}
 use Rattle.map_betas.specs.Guards.{loan_test}
 use Rattle.map_betas.proofs.MapLaws.{size_good}
@@ -53,6 +51,8 @@ use Rattle.sew_commands.proofs.CommandLaws.{called_on_map, run_kept, call_refuse
 use Rattle.sew_commands.proofs.RoomLaws.{run_long, run_room}
 use Rattle.sew_commands.proofs.ListLaws.{goes_on, before_before, then_made, made_append, made_kept, made_answers}
 use Rattle.sew_commands.proofs.CallLaws.{lent_done, lent_long, lent_room, long_same, called_made}
+use Rattle.std.specs.Prelude.{Err, Ok, is_ok}
+use Rattle.std.specs.Result.{result_and}
 
 -- ---- the calls, one after another
 
@@ -62,9 +62,9 @@ goes_past : (step : Step) (list : List ℕ) (s : Sewn) (rows₁ plan₁ : List �
 goes_past step list s rows₁ plan₁ e r p =
     λ t. before (answer_words s.answer) (e t) (take (width * e t) (p t)) (made step list (r t) (drop (width * e t) (p t)))
 
-refused_count : (a : Answer) → is_done a ≡ false → count_of a ≡ 0
-refused_count (Done d k) t = absurd (true≢false t)
-refused_count (Refused w) t = refl
+refused_count : (a : Answer) → is_ok a ≡ false → count_of a ≡ 0
+refused_count (Ok x) t = absurd (true≢false t)
+refused_count (Err w) t = refl
 
 -- what was made before a command that has written nothing
 before_nothing : (m : Made) (e : ℕ) (p a : List ℕ) (rest : Made) →
@@ -108,7 +108,7 @@ module _ (lent : Lending) (rows : List ℕ) (map : Map rows lent.flags) (long : 
     abbrev left : List ℕ
     left = drop (width * first.entries) first.plan
 
-    pub refused_passed : (operation ld rd : ℕ) → is_done (called lent operation ld rd first.rows left).answer ≡ false →
+    pub refused_passed : (operation ld rd : ℕ) → is_ok (called lent operation ld rd first.rows left).answer ≡ false →
         made (called lent) (xs ++ (operation ∷ ld ∷ rd ∷ ys)) rows plan ≡
         before (first.answers ++ answer_words (called lent operation ld rd first.rows left).answer) first.entries
         (take (width * first.entries) first.plan) (made (called lent) ys first.rows left)
@@ -123,47 +123,47 @@ module _ (lent : Lending) (rows : List ℕ) (map : Map rows lent.flags) (long : 
         (made (called lent) ys first.rows left)
 
 -- demand 3 in a list: the next command is the 3-unlink, whatever stands in its ignored place
-module _ (lent : Lending) (rows plan : List ℕ) (ld rd : ℕ) (done : is_done (three_link rows lent.flags ld rd).answer ≡ true)
+module _ (lent : Lending) (rows plan : List ℕ) (ld rd : ℕ) (linked : is_ok (three_link rows lent.flags ld rd).answer ≡ true)
     (ignored : ℕ) (list : List ℕ) where
   real : Used rows lent.flags ld rd
   unfolding three_link
-  real = (through rows lent.flags ld rd (given (three_link_on rows ld rd)) done).0
+  real = (through rows lent.flags ld rd (given (three_link_on rows ld rd)) linked).0
 
-  says : (three_link rows lent.flags ld rd).answer ≡ pass
-  says = call_says rows lent.flags ld rd real done
+  says : (three_link rows lent.flags ld rd).answer ≡ nothing
+  says = call_says rows lent.flags ld rd real linked
 
-  back : three_unlink (three_link rows lent.flags ld rd).loans lent.flags ld ≡ outcome (Done rd 0) rows
-  back = call_undoes rows lent.flags ld rd done
+  back : three_unlink (three_link rows lent.flags ld rd).loans lent.flags ld ≡ outcome (done rd 0) rows
+  back = call_undoes rows lent.flags ld rd linked
 
   pub restored : made (called lent) (3 ∷ ld ∷ rd ∷ 8 ∷ ld ∷ ignored ∷ list) rows plan ≡
-      before (answer_words (Done 0 0) ++ answer_words (Done rd 0)) 0 [] (made (called lent) list rows plan)
+      before (answer_words (done 0 0) ++ answer_words (done rd 0)) 0 [] (made (called lent) list rows plan)
   unfolding made called command_of
   restored =
       let s : Sewn = on_rows (three_link rows lent.flags ld rd) plan in
       let u : Sewn = on_rows (three_unlink (three_link rows lent.flags ld rd).loans lent.flags ld) plan in
-      let a : s.answer ≡ Done 0 0 = says in
-      let b : u ≡ leaves (Done rd 0) rows plan = ap (λ (o : Outcome (List ℕ)). on_rows o plan) back in
+      let a : s.answer ≡ done 0 0 = says in
+      let b : u ≡ leaves (done rd 0) rows plan = ap (λ (o : Outcome (List ℕ)). on_rows o plan) back in
       goes_past (called lent) (8 ∷ ld ∷ ignored ∷ list) s (three_link rows lent.flags ld rd).loans plan (ap count_of a) refl refl
       ∙ ap (λ (x : Answer). before (answer_words x) 0 [] (made (called lent) (8 ∷ ld ∷ ignored ∷ list) (three_link rows lent.flags ld rd).loans plan)) a
-      ∙ ap (before (answer_words (Done 0 0)) 0 [])
+      ∙ ap (before (answer_words (done 0 0)) 0 [])
       (goes_past (called lent) list u rows plan (ap (λ (x : Sewn). count_of x.answer) b) (ap (λ (x : Sewn). x.rows) b) refl
       ∙ ap (λ (x : Sewn). before (answer_words x.answer) 0 [] (made (called lent) list rows plan)) b)
-      ∙ before_before (answer_words (Done 0 0)) 0 [] (answer_words (Done rd 0)) 0 [] (made (called lent) list rows plan)
+      ∙ before_before (answer_words (done 0 0)) 0 [] (answer_words (done rd 0)) 0 [] (made (called lent) list rows plan)
 
 pub restored_anywhere : (lent : Lending) (rows : List ℕ) → Map rows lent.flags → LongEnough (darts rows) lent → (xs ys plan : List ℕ) → length xs % 3 ≡ 0 →
-    (ld rd ignored : ℕ) → is_done (three_link (made (called lent) xs rows plan).rows lent.flags ld rd).answer ≡ true →
+    (ld rd ignored : ℕ) → is_ok (three_link (made (called lent) xs rows plan).rows lent.flags ld rd).answer ≡ true →
     made (called lent) (xs ++ (3 ∷ ld ∷ rd ∷ 8 ∷ ld ∷ ignored ∷ ys)) rows plan ≡
-    before ((made (called lent) xs rows plan).answers ++ (answer_words (Done 0 0) ++ answer_words (Done rd 0))) (made (called lent) xs rows plan).entries
+    before ((made (called lent) xs rows plan).answers ++ (answer_words (done 0 0) ++ answer_words (done rd 0))) (made (called lent) xs rows plan).entries
     (take (width * (made (called lent) xs rows plan).entries) (made (called lent) xs rows plan).plan)
     (made (called lent) ys (made (called lent) xs rows plan).rows (drop (width * (made (called lent) xs rows plan).entries)
     (made (called lent) xs rows plan).plan))
-restored_anywhere lent rows w long xs ys plan h ld rd ignored done =
+restored_anywhere lent rows w long xs ys plan h ld rd ignored linked =
     let m : Made = made (called lent) xs rows plan in
     let left : List ℕ = drop (width * m.entries) m.plan in
     let p : List ℕ = take (width * m.entries) m.plan in
     list_append lent rows w long xs (3 ∷ ld ∷ rd ∷ 8 ∷ ld ∷ ignored ∷ ys) plan h
-    ∙ ap (before m.answers m.entries p) (restored lent m.rows left ld rd done ignored ys)
-    ∙ before_nothing m m.entries p (answer_words (Done 0 0) ++ answer_words (Done rd 0)) (made (called lent) ys m.rows left)
+    ∙ ap (before m.answers m.entries p) (restored lent m.rows left ld rd linked ignored ys)
+    ∙ before_nothing m m.entries p (answer_words (done 0 0) ++ answer_words (done rd 0)) (made (called lent) ys m.rows left)
 
 -- ---- the call
 
@@ -172,13 +172,13 @@ module _ (rows marks queue output flags vertices : List ℕ) (coordinates : List
   the_call = commands rows marks queue output flags vertices coordinates plan list
 
   -- what the call leaves, by its three tests
-  abbrev ended : Answer → Bool → Answer → Outcome CommandLoans
+  abbrev ended : Test → Bool → Test → Outcome CommandLoans
   ended g whole-list m =
       behind g (rows, marks, queue, output, plan)
       (cond whole-list
       (behind m (rows, marks, queue, output, plan)
       (list_done (darts rows) marks queue (filled output (made (called (lending marks queue flags vertices coordinates)) list rows plan))))
-      (outcome (Refused (BadCommand 0)) (rows, wiped (darts rows) marks, wiped (darts rows) queue, output, plan)))
+      (outcome (Err (BadCommand 0)) (rows, wiped (darts rows) marks, wiped (darts rows) queue, output, plan)))
 
   passes : Able rows marks queue output flags vertices coordinates list → commands_lent rows flags (loans_for marks queue output vertices coordinates list) ≡ pass
   unfolding commands_lent
@@ -192,7 +192,7 @@ module _ (rows marks queue output flags vertices : List ℕ) (coordinates : List
       let long : loan_test (darts rows) (length flags) (loans_for marks queue output vertices coordinates list) ≡ pass =
       sym (loan_none (darts rows) (length flags) (loans_for marks queue output vertices coordinates list) l.marks l.queue out
       able.map.flagged l.vertices l.coordinates) in
-      λ t. and_then (size t) (long t)
+      λ t. result_and (size t) (long t)
 
   pub commands_made : Able rows marks queue output flags vertices coordinates list → commands rows marks queue output flags vertices coordinates plan list ≡
       list_done (darts rows) marks queue (filled output (made (called (lending marks queue flags vertices coordinates)) list rows plan))
@@ -200,46 +200,46 @@ module _ (rows marks queue output flags vertices : List ℕ) (coordinates : List
   commands_made able =
       λ t. ended (passes able t) (eq-eqb (length list % 3) 0 able.whole t) (map_passes rows flags able.map t)
 
-  pub commands_iff : (is_done (commands rows marks queue output flags vertices coordinates plan list).answer ≡ true) ↔
+  pub commands_iff : (is_ok (commands rows marks queue output flags vertices coordinates plan list).answer ≡ true) ↔
       Able rows marks queue output flags vertices coordinates list
   unfolding commands list_tested
   commands_iff = (
     go (commands_lent rows flags (loans_for marks queue output vertices coordinates list)) refl (whole list) refl (map_test rows flags) refl,
-    (λ able. ap (λ (o : Outcome CommandLoans). is_done o.answer) (commands_made able)),
+    (λ able. ap (λ (o : Outcome CommandLoans). is_ok o.answer) (commands_made able)),
   )
     where
-      go : (g : Answer) → commands_lent rows flags (loans_for marks queue output vertices coordinates list) ≡ g → (b : Bool) → whole list ≡ b → (m : Answer) →
-          map_test rows flags ≡ m → is_done (ended g b m).answer ≡ true → Able rows marks queue output flags vertices coordinates list
-      go (Refused x) eg b eb m em t = absurd (true≢false (sym t))
-      go (Done d k) eg false eb m em t = absurd (true≢false (sym t))
-      go (Done d k) eg true eb (Refused x) em t = absurd (true≢false (sym t))
-      go (Done d k) eg true eb (Done x y) em t =
-          let p = lent_done rows flags (loans_for marks queue output vertices coordinates list) (ap is_done eg) in
+      go : (g : Test) → commands_lent rows flags (loans_for marks queue output vertices coordinates list) ≡ g → (b : Bool) → whole list ≡ b → (m : Test) →
+          map_test rows flags ≡ m → is_ok (ended g b m).answer ≡ true → Able rows marks queue output flags vertices coordinates list
+      go (Err x) eg b eb m em t = absurd (true≢false (sym t))
+      go (Ok x) eg false eb m em t = absurd (true≢false (sym t))
+      go (Ok x) eg true eb (Err y) em t = absurd (true≢false (sym t))
+      go (Ok x) eg true eb (Ok y) em t =
+          let p = lent_done rows flags (loans_for marks queue output vertices coordinates list) (ap is_ok eg) in
           record {
-            map = map_done rows flags p.0 p.1 (ap is_done em);
+            map = map_done rows flags p.0 p.1 (ap is_ok em);
             lent = lent_long rows marks queue output flags vertices coordinates list p.0 p.2;
             room = lent_room rows marks queue output flags vertices coordinates list p.0 p.2;
             whole = eqb-true (length list % 3) 0 eb;
           }
 
-  pub commands_refused : is_done (commands rows marks queue output flags vertices coordinates plan list).answer ≡ false →
+  pub commands_refused : is_ok (commands rows marks queue output flags vertices coordinates plan list).answer ≡ false →
       ((commands rows marks queue output flags vertices coordinates plan list).loans.0 ≡ rows)
       × ((commands rows marks queue output flags vertices coordinates plan list).loans.3 ≡ output)
       × ((commands rows marks queue output flags vertices coordinates plan list).loans.4 ≡ plan)
   unfolding commands list_tested
   commands_refused = go (commands_lent rows flags (loans_for marks queue output vertices coordinates list)) (whole list) (map_test rows flags)
     where
-      go : (g : Answer) (b : Bool) (m : Answer) → is_done (ended g b m).answer ≡ false →
+      go : (g : Test) (b : Bool) (m : Test) → is_ok (ended g b m).answer ≡ false →
           ((ended g b m).loans.0 ≡ rows) × ((ended g b m).loans.3 ≡ output) × ((ended g b m).loans.4 ≡ plan)
-      go (Refused x) b m t = (refl, refl, refl)
-      go (Done d k) false m t = (refl, refl, refl)
-      go (Done d k) true (Refused x) t = (refl, refl, refl)
-      go (Done d k) true (Done x y) t = absurd (true≢false t)
+      go (Err x) b m t = (refl, refl, refl)
+      go (Ok x) false m t = (refl, refl, refl)
+      go (Ok x) true (Err y) t = (refl, refl, refl)
+      go (Ok x) true (Ok y) t = absurd (true≢false t)
 
   pub commands_kept : Map rows flags → Stays flags rows (commands rows marks queue output flags vertices coordinates plan list).loans.0
-  commands_kept m = go (is_done the_call.answer) refl
+  commands_kept m = go (is_ok the_call.answer) refl
     where
-      go : (b : Bool) → is_done (commands rows marks queue output flags vertices coordinates plan list).answer ≡ b →
+      go : (b : Bool) → is_ok (commands rows marks queue output flags vertices coordinates plan list).answer ≡ b →
           Stays flags rows (commands rows marks queue output flags vertices coordinates plan list).loans.0
       go true t =
           let able = commands_iff.0 t in
@@ -323,7 +323,7 @@ module _ (rows marks queue output flags vertices : List ℕ) (coordinates : List
   -- answers behind answers, plan behind plan, and the rows of the second call
   abbrev both : Outcome CommandLoans → Outcome CommandLoans → Outcome CommandLoans
   both a b =
-      outcome (Done 0 (count_of a.answer + count_of b.answer)) (
+      outcome (done 0 (count_of a.answer + count_of b.answer)) (
         b.loans.0,
         wiped n marks,
         wiped n queue,
@@ -336,7 +336,7 @@ module _ (rows marks queue output flags vertices : List ℕ) (coordinates : List
   answers_of list rows₁ plan₁ out = take_at (made (called lent) list rows₁ plan₁).answers _ _ (made_answers (called lent) list rows₁ plan₁)
 
   pub commands_append : commands rows marks queue output flags vertices coordinates plan (xs ++ ys) ≡
-      outcome (Done 0 (count_of call₁.answer + count_of (call₂ call₁).answer)) (
+      outcome (done 0 (count_of call₁.answer + count_of (call₂ call₁).answer)) (
         (call₂ call₁).loans.0,
         wiped (darts rows) marks,
         wiped (darts rows) queue,
@@ -346,7 +346,7 @@ module _ (rows marks queue output flags vertices : List ℕ) (coordinates : List
   commands_append =
       commands_made rows marks queue output flags vertices coordinates plan (xs ++ ys) able
       ∙ ap (λ (m : Made). list_done n marks queue (filled output m)) (list_append lent rows able.map able.lent xs ys plan h)
-      ∙ (λ t. outcome (Done 0 (made₁.entries + made₂.entries)) (
+      ∙ (λ t. outcome (done 0 (made₁.entries + made₂.entries)) (
         made₂.rows,
         wiped n marks,
         wiped n queue,

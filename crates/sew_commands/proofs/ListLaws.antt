@@ -17,6 +17,7 @@ use lib.ListN.{length, get_or, take, drop, length-append, length-drop}
 use lib.Seq.{drop-cons, length-take-le, take-append-add, drop-append-add}
 use Rattle.sew_plan.specs.Plan.{width}
 use Rattle.sew_ground.specs.Sewn.{Sewn}
+use Rattle.sew_answers.proofs.AnswerLaws.{answer_long}
 use Rattle.sew_answers.specs.Words.{answer_width, answer_words, count_of}
 use Rattle.sew_commands.specs.Lists.{Step, Made, makes, before, left_of, written_by, made, nth}
 
@@ -143,4 +144,4 @@ made_answers step (a ∷ b ∷ []) rows plan = refl
 made_answers step (o ∷ l ∷ r ∷ list) rows plan =
     let s : Sewn = step o l r rows plan in
     let h : length (made step list s.rows (left_of s)).answers ≡ answer_width * (length list / 3) = made_answers step list s.rows (left_of s) in
-    simp length-append (omega arith)
+    simp (length-append, answer_long s.answer) (omega arith)

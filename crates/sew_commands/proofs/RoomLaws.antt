@@ -7,20 +7,18 @@
 -- Assumes nothing.
 use Prim.Native.Nat.{ℕ, ◌*◌, ◌<◌, ◌≤◌}
 use native.Mathlib.Omega.{arith}
-use mathlib.Core.Path.{◌≡◌, refl}
+use mathlib.Core.Path.{◌≡◌, refl, ap, subst}
 use mathlib.Core.Bool.{Bool, true, false, cond, not}
 use mathlib.Core.List.{List, []}
 use lib.Dec.{eqb, leb}
 use lib.Ieee.{Float}
 use lib.ListN.{length, length-append, length-drop}
 use borrow.Author.Tests.{leb-true}
-use Rattle.map_betas.specs.declared.error.Answer.{Answer}
-use Rattle.map_betas.specs.declared.error.Answer.TheVariants.{Done, Refused}
 use Rattle.map_betas.specs.declared.error.Refusal.{Refusal}
 use Rattle.map_betas.specs.declared.error.Refusal.TheVariants.{BadSize, ShortLoan, NotAMap, BadDart, BadBeta, NonFreeBase, NonFreeImage}
 use Rattle.map_betas.specs.declared.error.Refusal.TheVariants.{AlreadyFree, AsymmetricalFaces, BadGeometry, PlanRoom, BadImage, BadCommand, ImageRoom}
 use Rattle.map_betas.specs.Betas.{beta, darts}
-use Rattle.map_betas.specs.Answers.{Out, out, is_done, pass, given, outcome}
+use Rattle.map_betas.specs.Answers.{Out, out, pass, given, behind, Answer, Test, done}
 use Rattle.map_betas.specs.Maps.{WellFormed}
 use Rattle.map_betas.specs.Guards.{no_dart, dart_test, Dart}
 use Rattle.map_betas.specs.Cores.{link_core, unlink_core}
@@ -49,8 +47,9 @@ use Rattle.sew_operations.specs.declared.operations.Operation.TheVariants.{OneSe
 use Rattle.sew_operations.specs.Operations.{work_of}
 use Rattle.sew_answers.specs.Words.{count_of, FitsRefusal, Fits}
 use Rattle.sew_commands.specs.declared.commands.Command.{Command}
-use Rattle.sew_commands.specs.declared.commands.Command.TheVariants.{Links, Sews, Unknown}
-use Rattle.sew_commands.specs.Commands.{command_of, sew_second, sew_tested, core_of, run}
+use Rattle.sew_commands.specs.declared.commands.Command.TheVariants.{Links, Sews}
+use Rattle.sew_commands.specs.Commands.{operations, known, command_of, sew_second, after_darts, sew_tested, core_of, run}
+use Rattle.std.specs.Prelude.{⊤, get_or, Option, None, Some, Result, Err, Ok, is_ok}
 
 -- ---- answers that carry no length
 
@@ -71,20 +70,25 @@ refusal_fits (BadCommand k) p = tt
 refusal_fits (ImageRoom k) p = absurd p
 
 pub plain_fits : (a : Answer) → Plain a → Fits a
-plain_fits (Done d k) p = omega (arith, p)
-plain_fits (Refused w) p = refusal_fits w p
+plain_fits (Ok x) p = omega (arith, p)
+plain_fits (Err w) p = refusal_fits w p
 
 pub plain_count : (a : Answer) → Plain a → count_of a ≡ 0
-plain_count (Done d k) p = p
-plain_count (Refused w) p = refl
+plain_count (Ok x) p = p
+plain_count (Err w) p = refl
 
-either_answer : (b : Bool) (x y : Answer) → Plain x → Plain y → Plain (cond b x y)
-either_answer true x y p q = p
-either_answer false x y p q = q
+-- a refusal, where there is one, says no length
+abbrev Mild : {A : Type 0} → Result A Refusal → Type 0
+Mild (Ok x) = ⊤
+Mild (Err w) = PlainRefusal w
 
-darts_plain : (n : ℕ) (flags : List ℕ) (a b : ℕ) → Plain (dart_test n flags 1 a b)
-darts_plain n flags a b =
-    either_answer (no_dart n flags 1 a) (Refused (BadDart 1)) _ tt (either_answer (no_dart n flags 1 b) (Refused (BadDart 2)) pass tt refl)
+darts_mild : (n : ℕ) (flags : List ℕ) (a b : ℕ) → Mild (dart_test n flags 1 a b)
+darts_mild n flags a b = go (no_dart n flags 1 a) (no_dart n flags 1 b)
+  where
+    go : (x y : Bool) → Mild (cond {A = Test} x (Err (BadDart 1)) (cond y (Err (BadDart 2)) pass))
+    go true y = tt
+    go false true = tt
+    go false false = tt
 
 -- ---- the answer of a sew's work
 
@@ -95,8 +99,8 @@ links_plain rows ld rd =
     let p : Plain o.answer = core_plain rows 1 ld rd in
     let v : Out = link_core o.rows 1 (beta rows 3 rd) (beta rows 3 ld) in
     let q : Plain v.answer = core_plain o.rows 1 (beta rows 3 rd) (beta rows 3 ld) in
-    either_plain (is_done o.answer) _ o
-    (either_plain (both_three rows ld rd) (or_back rows v) o (either_plain (is_done v.answer) v (out v.answer rows) q q) p) p
+    either_plain (is_ok o.answer) _ o
+    (either_plain (both_three rows ld rd) (or_back rows v) o (either_plain (is_ok v.answer) v (out v.answer rows) q q) p) p
 
 unlinks_plain : (rows : List ℕ) (ld : ℕ) → Plain (one_unlinks rows ld).answer
 unfolding one_unlinks
@@ -104,8 +108,8 @@ unlinks_plain rows ld =
     let o : Out = unlink_core rows 1 ld in
     let p : Plain o.answer = uncore_plain rows 1 ld in
     let rd : ℕ = beta rows 1 ld in
-    either_plain (is_done o.answer) _ o
-    (either_plain (agrees o.rows ld rd) (out o.answer (second_cut o.rows ld rd)) (out (Refused (AsymmetricalFaces ld rd)) rows) p tt) p
+    either_plain (is_ok o.answer) _ o
+    (either_plain (agrees o.rows ld rd) (out o.answer (second_cut o.rows ld rd)) (out (Err (AsymmetricalFaces ld rd)) rows) p tt) p
 
 either_work : (b : Bool) (x y : Work) → Plain x.answer → Plain y.answer → Plain (cond b x y).answer
 either_work true x y p q = p
@@ -114,7 +118,7 @@ either_work false x y p q = q
 two_plain : (vertices : List ℕ) (coordinates : List Float) (rows : List ℕ) (ld rd : ℕ) → Plain (two_sew_on vertices coordinates rows ld rd).answer
 unfolding two_sew_on linked_sides
 two_plain vertices coordinates rows ld rd =
-    either_work (bad_sides vertices coordinates (side_of rows ld) (side_of rows rd)) (work (Refused (BadGeometry 2 ld rd)) rows [])
+    either_work (bad_sides vertices coordinates (side_of rows ld) (side_of rows rd)) (work (Err (BadGeometry 2 ld rd)) rows [])
     (linked_sides rows ld rd (side_of rows ld) (side_of rows rd)) tt (core_plain rows 2 ld rd)
 
 pub work_plain : (o : Operation) (vertices : List ℕ) (coordinates : List Float) (rows : List ℕ) (ld rd : ℕ) →
@@ -153,7 +157,7 @@ module _ (vertices : List ℕ) (coordinates : List Float) (rows : List ℕ) (w :
   sew_few : (ld rd : ℕ) → length (two_sew_on vertices coordinates rows ld rd).entries ≤ 3
   unfolding two_sew_on linked_sides
   sew_few ld rd =
-      few_work (bad_sides vertices coordinates (side_of rows ld) (side_of rows rd)) (work (Refused (BadGeometry 2 ld rd)) rows [])
+      few_work (bad_sides vertices coordinates (side_of rows ld) (side_of rows rd)) (work (Err (BadGeometry 2 ld rd)) rows [])
       (linked_sides rows ld rd (side_of rows ld) (side_of rows rd)) 3 (omega arith) (two_few Merge (side_of rows ld) (side_of rows rd))
 
   pub work_few : (o : Operation) (ld rd : ℕ) → Dart (darts rows) 1 ld → length (work_of o vertices coordinates rows ld rd).entries < 4294967296
@@ -191,7 +195,7 @@ unfolding settled
 settled_held plan d es h = go (leb (length es) (room_of plan)) refl
   where
     by : Bool → Settled
-    by b = cond b (settles (Done d (length es)) (put_plan es plan)) (settles (Refused (PlanRoom (length es))) plan)
+    by b = cond b (settles (done d (length es)) (put_plan es plan)) (settles (Err (PlanRoom (length es))) plan)
 
     go : (b : Bool) → leb (length es) (room_of plan) ≡ b → Held plan (by b).answer (by b).plan
     go true e =
@@ -202,7 +206,7 @@ settled_held plan d es h = go (leb (length es) (room_of plan)) refl
 sewn_held : (rows plan : List ℕ) (w : Work) → Plain w.answer → length w.entries < 4294967296 →
     Held plan (sewn rows plan w).answer (sewn rows plan w).plan
 unfolding sewn
-sewn_held rows plan w p h = go (is_done w.answer)
+sewn_held rows plan w p h = go (is_ok w.answer)
   where
     by : Bool → Sewn
     by b = cond b (after_plan rows w.rows (settled plan (dart_of w.answer) w.entries)) (leaves w.answer rows plan)
@@ -213,39 +217,48 @@ sewn_held rows plan w p h = go (is_done w.answer)
 
 tested_plain : (l : Link) (rows flags : List ℕ) (ld rd : ℕ) → Plain (link_tested l rows flags ld rd).answer
 unfolding link_tested
-tested_plain l rows flags ld rd = go (is_done (dart_test (darts rows) flags 1 ld (link_second l ld rd)))
+tested_plain l rows flags ld rd = go (dart_test (darts rows) flags 1 ld (link_second l ld rd)) (darts_mild (darts rows) flags ld (link_second l ld rd))
   where
-    go : (b : Bool) →
-        Plain (cond b (given (link_on l rows ld rd)) (outcome (dart_test (darts rows) flags 1 ld (link_second l ld rd)) rows)).answer
-    go true = link_plain l rows ld rd
-    go false = darts_plain (darts rows) flags ld (link_second l ld rd)
+    go : (t : Test) → Mild t → Plain (behind t rows (given (link_on l rows ld rd))).answer
+    go (Ok x) m = link_plain l rows ld rd
+    go (Err x) m = m
 
 module _ (flags vertices : List ℕ) (coordinates : List Float) (rows plan : List ℕ) (w : WellFormed rows) where
-  pub core_held : (c : Command) (operation ld rd : ℕ) →
-      Held plan (core_of c flags vertices coordinates operation ld rd rows plan).answer (core_of c flags vertices coordinates operation ld rd rows plan).plan
+  pub mild_held : (c : Result Command Refusal) (ld rd : ℕ) → Mild c →
+      Held plan (core_of c flags vertices coordinates ld rd rows plan).answer (core_of c flags vertices coordinates ld rd rows plan).plan
   unfolding sew_tested
-  core_held (Links l) operation ld rd = plain_held plan (link_tested l rows flags ld rd).answer (tested_plain l rows flags ld rd)
-  core_held (Sews o) operation ld rd = go (is_done (dart_test (darts rows) flags 1 ld (sew_second o ld rd))) refl
+  mild_held (Ok (Links l)) ld rd p = plain_held plan (link_tested l rows flags ld rd).answer (tested_plain l rows flags ld rd)
+  mild_held (Ok (Sews o)) ld rd p = go (dart_test (darts rows) flags 1 ld (sew_second o ld rd)) refl
     where
-      by : Bool → Sewn
-      by b = cond b (sewn rows plan (work_of o vertices coordinates rows ld rd)) (leaves (dart_test (darts rows) flags 1 ld (sew_second o ld rd)) rows plan)
+      by : Test → Sewn
+      by t = after_darts t rows plan (sewn rows plan (work_of o vertices coordinates rows ld rd))
 
-      go : (b : Bool) → is_done (dart_test (darts rows) flags 1 ld (sew_second o ld rd)) ≡ b → Held plan (by b).answer (by b).plan
-      go true e =
+      go : (t : Test) → dart_test (darts rows) flags 1 ld (sew_second o ld rd) ≡ t → Held plan (by t).answer (by t).plan
+      go (Ok x) e =
           sewn_held rows plan (work_of o vertices coordinates rows ld rd) (work_plain o vertices coordinates rows ld rd)
-          (work_few vertices coordinates rows w o ld rd (are_darts (darts rows) flags 1 ld (sew_second o ld rd) e).0.0)
-      go false e = plain_held plan (dart_test (darts rows) flags 1 ld (sew_second o ld rd)) (darts_plain (darts rows) flags ld (sew_second o ld rd))
-  core_held Unknown operation ld rd = (tt, refl, omega arith)
+          (work_few vertices coordinates rows w o ld rd (are_darts (darts rows) flags 1 ld (sew_second o ld rd) (ap is_ok e)).0.0)
+      go (Err x) e = plain_held plan (Err x) (subst (λ (t : Test). Mild t) e (darts_mild (darts rows) flags ld (sew_second o ld rd)))
+  mild_held (Err x) ld rd p = plain_held plan (Err x) p
+
+  -- an operation that is none is refused with its number, which fits as every number does
+  known_mild : (operation : ℕ) (c : Option Command) → Mild (known operation c)
+  known_mild operation None = tt
+  known_mild operation (Some c) = tt
+
+  pub core_held : (c : Option Command) (operation ld rd : ℕ) →
+      Held plan (core_of (known operation c) flags vertices coordinates ld rd rows plan).answer
+      (core_of (known operation c) flags vertices coordinates ld rd rows plan).plan
+  core_held c operation ld rd = mild_held (known operation c) ld rd (known_mild operation c)
 
   module _ (operation ld rd : ℕ) where
     pub run_fits : Fits (run flags vertices coordinates operation ld rd rows plan).answer
-    unfolding run
-    run_fits = (core_held (command_of operation) operation ld rd).0
+    unfolding run command_of
+    run_fits = (core_held (get_or operations operation None) operation ld rd).0
 
     pub run_long : length (run flags vertices coordinates operation ld rd rows plan).plan ≡ length plan
-    unfolding run
-    run_long = (core_held (command_of operation) operation ld rd).1
+    unfolding run command_of
+    run_long = (core_held (get_or operations operation None) operation ld rd).1
 
     pub run_room : width * count_of (run flags vertices coordinates operation ld rd rows plan).answer ≤ length plan
-    unfolding run
-    run_room = (core_held (command_of operation) operation ld rd).2
+    unfolding run command_of
+    run_room = (core_held (get_or operations operation None) operation ld rd).2

@@ -4,7 +4,6 @@
 --   rest_is, rest_back   the plan's rest that is lent on, and the plan once it has come back
 --   turn_is         one turn, from what its calls have left
 --   answer_fits, answer_room   what a turn's answer says fits the output and the plan
---   clean_same      scratch between two turns
 -- Assumes nothing.
 use Prim.Native.Nat.{ℕ, ◌+◌, ◌-◌, ◌*◌, ◌/◌, ◌≤◌}
 use native.Mathlib.Omega.{arith}
@@ -15,10 +14,7 @@ use lib.Ieee.{Float}
 use lib.ListN.{length, take, drop, length-append, length-drop, take-append-drop, drop_of_length-le}
 use lib.Seq.{take_all, length-take-le, drop-drop}
 use borrow.Rule.Slice.PartMut.{put_mid, mid_of}
-use Rattle.map_betas.specs.declared.error.Answer.{Answer}
-use Rattle.map_betas.specs.Betas.{darts}
 use Rattle.map_betas.specs.Maps.{WellFormed}
-use Rattle.cell_steps.specs.Loans.{Clean}
 use Rattle.cell_steps.specs.Calls.{headed}
 use Rattle.sew_plan.specs.Plan.{width}
 use Rattle.sew_ground.specs.Sewn.{Sewn, leaves}
@@ -29,6 +25,7 @@ use Rattle.sew_commands.specs.Lists.{Step, Made, makes, before, left_of, written
 use Rattle.sew_commands.proofs.CommandLaws.{run_formed}
 use Rattle.sew_commands.proofs.RoomLaws.{run_fits, run_long, run_room}
 use Rattle.sew_commands.proofs.ListLaws.{made_turn, made_over, before_none, before_before, take_behind, drop_behind}
+use Rattle.map_betas.specs.Answers.{Answer}
 
 pub record Making (step : Step) (list rows₀ output₀ plan₀ : List ℕ) (k : ℕ) (t : Turn) : Type 0 where
   pub formed : WellFormed t.rows
@@ -176,12 +173,3 @@ module _ (flags vertices : List ℕ) (coordinates : List Float) (operation ld rd
 
   pub answer_room : width * count_of a ≤ length plan
   answer_room = subst (λ (x : Answer). width * count_of x ≤ length plan) (sym said) (run_room flags vertices coordinates rows plan w operation ld rd)
-
--- scratch stays clean as long as it and the number of darts stay what they were
-pub clean_same : (rows rows₀ marks marks₀ queue queue₀ : List ℕ) → length rows ≡ length rows₀ → marks ≡ marks₀ → queue ≡ queue₀ →
-    Clean (darts rows₀) marks₀ queue₀ → Clean (darts rows) marks queue
-clean_same rows rows₀ marks marks₀ queue queue₀ e m q c =
-    let n : darts rows₀ ≡ darts rows = ap (λ (x : ℕ). x / 4) (sym e) in
-    let c₁ : Clean (darts rows) marks₀ queue₀ = subst (λ (x : ℕ). Clean x marks₀ queue₀) n c in
-    let c₂ : Clean (darts rows) marks queue₀ = subst (λ (x : List ℕ). Clean (darts rows) x queue₀) (sym m) c₁ in
-    subst (λ (x : List ℕ). Clean (darts rows) marks x) (sym q) c₂

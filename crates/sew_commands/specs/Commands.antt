@@ -1,17 +1,16 @@
 -- One command of a list: a call that a user has, by its operation's number.
---   operations, command_of   what a number stands for
+--   operations, known, command_of   what a number stands for
 --   Lending, LongEnough  what each call of a list is lent beside rows and plan, and that it is long enough
 --   sew_call_of            the call of a sew's or an unsew's name
 --   call_of               the call of a command, and what it leaves of rows and plan
 --   called               the same of an operation's number
 --   sew_second            the second dart that a sew looks at
 --   sew_tested, core_of, run   a command on a map, where its darts alone are tested
-use Rattle.std.specs.Prelude.{ℕ, ◌*◌, ◌≤◌, cond, List, [], ◌∷◌, Float, length, get_or}
-use Rattle.map_betas.specs.declared.error.Answer.{Answer}
-use Rattle.map_betas.specs.declared.error.Answer.TheVariants.{Refused}
+use Rattle.std.specs.Prelude.{ℕ, ◌*◌, ◌≤◌, List, [], ◌∷◌, Float, length, get_or, Option, None, Some, Result, Ok, Err}
+use Rattle.map_betas.specs.declared.error.Refusal.{Refusal}
 use Rattle.map_betas.specs.declared.error.Refusal.TheVariants.{BadCommand}
 use Rattle.map_betas.specs.Betas.{darts}
-use Rattle.map_betas.specs.Answers.{Outcome, is_done}
+use Rattle.map_betas.specs.Answers.{Outcome, Test}
 use Rattle.map_betas.specs.Guards.{dart_test}
 use Rattle.link_run.specs.declared.links.Link.TheVariants.{OneLink, TwoLink, ThreeLink, OneUnlink, TwoUnlink, ThreeUnlink}
 use Rattle.link_run.specs.Links.{link_call, link_tested}
@@ -22,19 +21,24 @@ use Rattle.sew_operations.specs.declared.operations.Operation.{Operation}
 use Rattle.sew_operations.specs.declared.operations.Operation.TheVariants.{OneSew, OneUnsew, TwoSew, TwoUnsew, ThreeUnsew}
 use Rattle.sew_operations.specs.Operations.{work_of}
 use Rattle.sew_commands.specs.declared.commands.Command.{Command}
-use Rattle.sew_commands.specs.declared.commands.Command.TheVariants.{Links, Sews, Unknown}
+use Rattle.sew_commands.specs.declared.commands.Command.TheVariants.{Links, Sews}
 
--- scope: commands. The operations in the order of their numbers, from 0 on; there is none beyond 11.
-abbrev pub operations : List Command
+-- scope: commands. The operations in the order of their numbers, from 0 on, which stands for none; there is none beyond 11.
+abbrev pub operations : List (Option Command)
 operations =
-    Unknown
-    ∷ Links OneLink ∷ Links TwoLink ∷ Links ThreeLink
-    ∷ Sews OneSew ∷ Sews TwoSew
-    ∷ Links OneUnlink ∷ Links TwoUnlink ∷ Links ThreeUnlink
-    ∷ Sews OneUnsew ∷ Sews TwoUnsew ∷ Sews ThreeUnsew ∷ []
+    None
+    ∷ Some (Links OneLink) ∷ Some (Links TwoLink) ∷ Some (Links ThreeLink)
+    ∷ Some (Sews OneSew) ∷ Some (Sews TwoSew)
+    ∷ Some (Links OneUnlink) ∷ Some (Links TwoUnlink) ∷ Some (Links ThreeUnlink)
+    ∷ Some (Sews OneUnsew) ∷ Some (Sews TwoUnsew) ∷ Some (Sews ThreeUnsew) ∷ []
 
-unfoldable pub command_of : ℕ → Command
-command_of operation = get_or operations operation Unknown
+-- a number that stands for none is refused
+abbrev pub known : ℕ → Option Command → Result Command Refusal
+known operation None = Err (BadCommand operation)
+known operation (Some c) = Ok c
+
+unfoldable pub command_of : ℕ → Result Command Refusal
+command_of operation = known operation (get_or operations operation None)
 
 -- flags are lent to every call, marks and queue to every sew, and no sew looks at what these hold; only the 2-sew looks at the vertices
 pub record Lending : Type 0 where
@@ -71,14 +75,19 @@ on_rows o plan = leaves o.answer o.loans plan
 abbrev pub on_plan : Outcome SewLoans → Sewn
 on_plan o = leaves o.answer o.loans.0 o.loans.3
 
+-- a sew behind the test of its darts
+abbrev pub after_darts : Test → List ℕ → List ℕ → Sewn → Sewn
+after_darts (Ok x) rows plan s = s
+after_darts (Err w) rows plan s = leaves (Err w) rows plan
+
 -- a command is the call of its name, guard and all; a number that stands for none is refused before anything else
-abbrev pub call_of : Command → Lending → ℕ → ℕ → ℕ → List ℕ → List ℕ → Sewn
-call_of (Links l) lent operation ld rd rows plan = on_rows (link_call l rows lent.flags ld rd) plan
-call_of (Sews o) lent operation ld rd rows plan = on_plan (sew_call_of o lent rows plan ld rd)
-call_of Unknown lent operation ld rd rows plan = leaves (Refused (BadCommand operation)) rows plan
+abbrev pub call_of : Result Command Refusal → Lending → ℕ → ℕ → List ℕ → List ℕ → Sewn
+call_of (Ok (Links l)) lent ld rd rows plan = on_rows (link_call l rows lent.flags ld rd) plan
+call_of (Ok (Sews o)) lent ld rd rows plan = on_plan (sew_call_of o lent rows plan ld rd)
+call_of (Err w) lent ld rd rows plan = leaves (Err w) rows plan
 
 unfoldable pub called : Lending → ℕ → ℕ → ℕ → List ℕ → List ℕ → Sewn
-called lent operation ld rd rows plan = call_of (command_of operation) lent operation ld rd rows plan
+called lent operation ld rd rows plan = call_of (command_of operation) lent ld rd rows plan
 
 -- an unsew has no second dart: its first stands in
 abbrev pub sew_second : Operation → ℕ → ℕ → ℕ
@@ -88,20 +97,16 @@ sew_second TwoSew ld rd = rd
 sew_second TwoUnsew ld rd = ld
 sew_second ThreeUnsew ld rd = ld
 
--- a sew behind the test of its darts
-abbrev pub after_darts : Answer → List ℕ → List ℕ → Sewn → Sewn
-after_darts t rows plan s = cond (is_done t) s (leaves t rows plan)
-
 unfoldable pub sew_tested : Operation → List ℕ → List ℕ → List Float → ℕ → ℕ → List ℕ → List ℕ → Sewn
 sew_tested o flags vertices coordinates ld rd rows plan =
     after_darts (dart_test (darts rows) flags 1 ld (sew_second o ld rd)) rows plan (sewn rows plan (work_of o vertices coordinates rows ld rd))
 
 -- A command as the code runs it, on a map and with loans that are long enough: its darts alone are tested. There it is the call
 -- (`call_on_map`, `proofs/CommandLaws.antt`).
-abbrev pub core_of : Command → List ℕ → List ℕ → List Float → ℕ → ℕ → ℕ → List ℕ → List ℕ → Sewn
-core_of (Links l) flags vertices coordinates operation ld rd rows plan = on_rows (link_tested l rows flags ld rd) plan
-core_of (Sews o) flags vertices coordinates operation ld rd rows plan = sew_tested o flags vertices coordinates ld rd rows plan
-core_of Unknown flags vertices coordinates operation ld rd rows plan = leaves (Refused (BadCommand operation)) rows plan
+abbrev pub core_of : Result Command Refusal → List ℕ → List ℕ → List Float → ℕ → ℕ → List ℕ → List ℕ → Sewn
+core_of (Ok (Links l)) flags vertices coordinates ld rd rows plan = on_rows (link_tested l rows flags ld rd) plan
+core_of (Ok (Sews o)) flags vertices coordinates ld rd rows plan = sew_tested o flags vertices coordinates ld rd rows plan
+core_of (Err w) flags vertices coordinates ld rd rows plan = leaves (Err w) rows plan
 
 unfoldable pub run : List ℕ → List ℕ → List Float → ℕ → ℕ → ℕ → List ℕ → List ℕ → Sewn
-run flags vertices coordinates operation ld rd rows plan = core_of (command_of operation) flags vertices coordinates operation ld rd rows plan
+run flags vertices coordinates operation ld rd rows plan = core_of (command_of operation) flags vertices coordinates ld rd rows plan

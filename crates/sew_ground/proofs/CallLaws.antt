@@ -1,8 +1,7 @@
 -- What a sew or an unsew leaves once its tests have passed, from what its core leaves: `sew_left`. Assumes nothing.
 use Rattle.std.specs.Prelude.{◌≡◌, ℕ, List}
 use mathlib.Core.Path.{ap}
-use Rattle.map_betas.specs.declared.error.Answer.{Answer}
-use Rattle.map_betas.specs.Answers.{outcome}
+use Rattle.map_betas.specs.Answers.{outcome, Answer}
 use Rattle.map_betas.proofs.AnswerLaws.{outcome_is}
 use Rattle.cell_steps.specs.Calls.{wiped}
 use Rattle.sew_ground.specs.Sewn.{Sewn, leaves}

@@ -4,17 +4,15 @@
 --   call_one_sew_kept, call_one_unsew_kept, call_two_sew_kept, call_two_unsew_kept   each of the calls
 --   call_one_sew_refused, .. each of the calls, refused
 -- Assumes nothing.
-use Rattle.std.specs.Prelude.{◌≡◌, ℕ, Bool, true, false, cond, leb, List, length}
+use Rattle.std.specs.Prelude.{◌≡◌, ℕ, Bool, true, false, cond, leb, List, length, Err, Ok, is_ok}
 use native.Mathlib.Omega.{arith}
-use mathlib.Core.Path.{refl}
+use mathlib.Core.Path.{refl, ap}
 use mathlib.Core.Bool.{true≢false}
 use lib.Ieee.{Float}
-use Rattle.map_betas.specs.declared.error.Answer.{Answer}
-use Rattle.map_betas.specs.declared.error.Answer.TheVariants.{Done, Refused}
 use Rattle.map_betas.specs.declared.error.Refusal.TheVariants.{PlanRoom}
 use Rattle.map_betas.specs.declared.loans.Loans.{Loans}
 use Rattle.map_betas.specs.Betas.{darts}
-use Rattle.map_betas.specs.Answers.{is_done, outcome}
+use Rattle.map_betas.specs.Answers.{behind, Test, done}
 use Rattle.map_betas.specs.Maps.{Map, Keeps, Stays}
 use Rattle.map_betas.specs.Guards.{scratch_of, vertex_loans, guard_of, Dart}
 use Rattle.map_betas.proofs.GuardLaws.{ready}
@@ -32,44 +30,43 @@ module _ (rows plan : List ℕ) (w : Work) where
   left_by a b =
       cond a
       (after_plan rows w.rows
-      (cond b (settles (Done (dart_of w.answer) (length w.entries)) (put_plan w.entries plan))
-      (settles (Refused (PlanRoom (length w.entries))) plan)))
+      (cond b (settles (done (dart_of w.answer) (length w.entries)) (put_plan w.entries plan))
+      (settles (Err (PlanRoom (length w.entries))) plan)))
       (leaves w.answer rows plan)
 
   -- a work that is refused, by itself or by the plan's room
-  sewn_refused : is_done (sewn rows plan w).answer ≡ false → ((sewn rows plan w).rows ≡ rows) × ((sewn rows plan w).plan ≡ plan)
+  sewn_refused : is_ok (sewn rows plan w).answer ≡ false → ((sewn rows plan w).rows ≡ rows) × ((sewn rows plan w).plan ≡ plan)
   unfolding sewn settled
-  sewn_refused = go (is_done w.answer) (leb (length w.entries) (room_of plan))
+  sewn_refused = go (is_ok w.answer) (leb (length w.entries) (room_of plan))
     where
-      go : (a b : Bool) → is_done (left_by a b).answer ≡ false → ((left_by a b).rows ≡ rows) × ((left_by a b).plan ≡ plan)
+      go : (a b : Bool) → is_ok (left_by a b).answer ≡ false → ((left_by a b).rows ≡ rows) × ((left_by a b).plan ≡ plan)
       go false b t = (refl, refl)
       go true false t = (refl, refl)
       go true true t = absurd (true≢false t)
 
-module _ (g : Answer) (rows marks queue plan : List ℕ) (w : Work) where
-  pub sew_refused : is_done (sew_call g rows marks queue plan w).answer ≡ false →
+module _ (g : Test) (rows marks queue plan : List ℕ) (w : Work) where
+  pub sew_refused : is_ok (sew_call g rows marks queue plan w).answer ≡ false →
       ((sew_call g rows marks queue plan w).loans.0 ≡ rows) × ((sew_call g rows marks queue plan w).loans.3 ≡ plan)
   sew_refused = go g
     where
-      go : (h : Answer) → is_done (sew_call h rows marks queue plan w).answer ≡ false →
+      go : (h : Test) → is_ok (sew_call h rows marks queue plan w).answer ≡ false →
           ((sew_call h rows marks queue plan w).loans.0 ≡ rows) × ((sew_call h rows marks queue plan w).loans.3 ≡ plan)
-      go (Done d k) t = sewn_refused rows plan w t
-      go (Refused x) t = (refl, refl)
+      go (Ok x) t = sewn_refused rows plan w t
+      go (Err x) t = (refl, refl)
 
 -- a call leaves a map a map, done or refused: the tests have found its darts in use, and its work spares every other dart that is free
 module _ (rows flags marks queue plan : List ℕ) (loans : Loans) (a b : ℕ) (w : Work) (m : Map rows flags)
     (k : Dart (darts rows) 1 a → Dart (darts rows) 1 b → Keeps a b rows w.rows) where
   pub sew_kept : Stays flags rows (sew_call (guard_of rows flags loans 1 a b) rows marks queue plan w).loans.0
-  sew_kept = go (is_done (guard_of rows flags loans 1 a b)) refl
+  sew_kept = go (guard_of rows flags loans 1 a b) refl
     where
-      go : (c : Bool) → is_done (guard_of rows flags loans 1 a b) ≡ c →
-          Stays flags rows
-          (cond c (sew_done (darts rows) marks queue (sewn rows plan w)) (outcome (guard_of rows flags loans 1 a b) (rows, marks, queue, plan))).loans.0
-      go true t =
-          let r = ready rows flags loans 1 a b t in
+      go : (g : Test) → guard_of rows flags loans 1 a b ≡ g →
+          Stays flags rows (behind g (rows, marks, queue, plan) (sew_done (darts rows) marks queue (sewn rows plan w))).loans.0
+      go (Ok x) t =
+          let r = ready rows flags loans 1 a b (ap is_ok t) in
           kept_map a b rows flags _ m (r.used_left (omega arith)) (r.used_right (omega arith))
           (sewn_kept a b rows plan m.formed w (k r.left r.right))
-      go false t = (m, refl)
+      go (Err x) t = (m, refl)
 
 module _ (rows marks queue flags plan : List ℕ) (ld : ℕ) where
   module _ (m : Map rows flags) where
@@ -95,18 +92,18 @@ module _ (rows marks queue flags plan : List ℕ) (ld : ℕ) where
     call_two_unsew_kept =
         sew_kept rows flags marks queue plan (scratch_of (length marks) (length queue)) ld ld (two_unsew_on rows ld) m (λ x y. two_unsew_kept rows ld m.formed)
 
-  pub call_one_sew_refused : (rd : ℕ) → is_done (one_sew rows marks queue flags plan ld rd).answer ≡ false →
+  pub call_one_sew_refused : (rd : ℕ) → is_ok (one_sew rows marks queue flags plan ld rd).answer ≡ false →
       ((one_sew rows marks queue flags plan ld rd).loans.0 ≡ rows) × ((one_sew rows marks queue flags plan ld rd).loans.3 ≡ plan)
   unfolding one_sew
   call_one_sew_refused rd = sew_refused (sew_guard rows marks queue flags ld rd) rows marks queue plan (one_sew_on rows ld rd)
 
-  pub call_one_unsew_refused : is_done (one_unsew rows marks queue flags plan ld).answer ≡ false →
+  pub call_one_unsew_refused : is_ok (one_unsew rows marks queue flags plan ld).answer ≡ false →
       ((one_unsew rows marks queue flags plan ld).loans.0 ≡ rows) × ((one_unsew rows marks queue flags plan ld).loans.3 ≡ plan)
   unfolding one_unsew
   call_one_unsew_refused = sew_refused (sew_guard rows marks queue flags ld ld) rows marks queue plan (one_unsew_on rows ld)
 
   pub call_two_sew_refused : (vertices : List ℕ) (coordinates : List Float) (rd : ℕ) →
-      is_done (two_sew rows marks queue flags vertices coordinates plan ld rd).answer ≡ false →
+      is_ok (two_sew rows marks queue flags vertices coordinates plan ld rd).answer ≡ false →
       ((two_sew rows marks queue flags vertices coordinates plan ld rd).loans.0 ≡ rows)
       × ((two_sew rows marks queue flags vertices coordinates plan ld rd).loans.3 ≡ plan)
   unfolding two_sew
@@ -114,7 +111,7 @@ module _ (rows marks queue flags plan : List ℕ) (ld : ℕ) where
       sew_refused (guard_of rows flags (vertex_loans (length marks) (length queue) (length vertices) (length coordinates)) 1 ld rd) rows marks queue plan
       (two_sew_on vertices coordinates rows ld rd)
 
-  pub call_two_unsew_refused : is_done (two_unsew rows marks queue flags plan ld).answer ≡ false →
+  pub call_two_unsew_refused : is_ok (two_unsew rows marks queue flags plan ld).answer ≡ false →
       ((two_unsew rows marks queue flags plan ld).loans.0 ≡ rows) × ((two_unsew rows marks queue flags plan ld).loans.3 ≡ plan)
   unfolding two_unsew
   call_two_unsew_refused = sew_refused (sew_guard rows marks queue flags ld ld) rows marks queue plan (two_unsew_on rows ld)

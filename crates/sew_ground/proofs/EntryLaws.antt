@@ -1,6 +1,10 @@
--- Entries that are there or not (`none_asked`, `none_differs`, `one_differs`; one at most: `if_few`), and entries written behind each other: in two
--- parts (`written_both`), and from a plan's start (`written_put`). Assumes nothing.
-use Rattle.std.specs.Prelude.{◌≡◌, ℕ, ◌+◌, ◌≤◌, Bool, true, false, cond, not, ◌&&◌, eqb, ◌≢◌, List, [], ◌∷◌, ◌++◌, length}
+-- Entries that are there or not (`none_asked`, `none_differs`, `one_differs`; one at most: `if_few`; how many: `all_counted`), and entries written behind each
+-- other: in two parts (`written_both`), from a plan's start (`written_put`), item by item (`item_put`, `item_none`, `items_done`). Assumes nothing.
+use Rattle.std.specs.Prelude.{◌≡◌, ℕ, ◌+◌, ◌≤◌, Bool, true, false, cond, not, ◌&&◌, eqb, ◌≢◌, List, [], ◌∷◌, ◌++◌, length, get_or, drop, ◌<◌}
+use Rattle.std.specs.Prelude.{Option, Some, None}
+use Rattle.std.specs.Prelude.{filter, is_some, suc}
+use Rattle.std.proofs.lemmas.List.{append-nil, drop_all}
+use Rattle.std.proofs.Common.{drop-cons, add-one}
 use native.Mathlib.Omega.{arith}
 use mathlib.Core.Path.{refl, sym, ap, ◌∙◌}
 use mathlib.Core.List.{append_assoc}
@@ -10,12 +14,9 @@ use Rattle.cell_steps.specs.declared.cells.Cell.{Cell}
 use Rattle.cell_steps.specs.declared.cells.Class.{Class}
 use Rattle.sew_plan.specs.declared.Kind.{Kind}
 use Rattle.sew_plan.specs.declared.Entry.{Entry}
-use Rattle.sew_plan.specs.Plan.{written, put_plan}
+use Rattle.sew_plan.specs.Plan.{entry_of, written, put_plan}
 use Rattle.sew_plan.proofs.PlanLaws.{write_next, put_none}
-use Rattle.sew_ground.specs.declared.items.Item.{Item}
-use Rattle.sew_ground.specs.declared.items.Item.TheVariants.{Nothing, One}
-use Rattle.sew_ground.specs.declared.items.Items.{Items}
-use Rattle.sew_ground.specs.Entries.{entry_of, entries_if, listed, all_of, written_all}
+use Rattle.sew_ground.specs.Entries.{entries_if, listed, all_of, written_all}
 
 module _ (asked : Bool) (k : Class) (kind : Kind) (a b : Cell) where
   pub none_asked : asked ≡ false → [] ≡ entries_if asked k kind a b
@@ -38,35 +39,15 @@ module _ (asked : Bool) (k : Class) (kind : Kind) (a b : Cell) where
       go true = omega arith
       go false = omega arith
 
--- the entries of the three items
-pub all_length : (items : Items) → length (all_of items) ≡ length (listed items.first) + length (listed items.second) + length (listed items.third)
-all_length items =
-    length-append (listed items.first) (listed items.second ++ listed items.third)
-    ∙ ap (λ (k : ℕ). length (listed items.first) + k) (length-append (listed items.second) (listed items.third))
-    ∙ omega arith
-
 pub written_both : (plan : List ℕ) (k : ℕ) (es fs : List Entry) → written_all (written_all plan k es) (k + length es) fs ≡ written_all plan k (es ++ fs)
 unfolding written_all
 written_both plan k [] fs = ap (λ (j : ℕ). written_all plan j fs) (omega arith)
 written_both plan k (e ∷ es) fs =
     ap (λ (j : ℕ). written_all (written_all (written plan k e) (k + 1) es) j fs) (omega arith) ∙ written_both (written plan k e) (k + 1) es fs
 
--- three in a row, as the code writes them
-pub written_three : (plan p₁ p₂ p₃ : List ℕ) (k k₁ k₂ : ℕ) (es fs gs : List Entry) →
-    p₁ ≡ written_all plan k es → k₁ ≡ k + length es → p₂ ≡ written_all p₁ k₁ fs → k₂ ≡ k₁ + length fs → p₃ ≡ written_all p₂ k₂ gs →
-    p₃ ≡ written_all plan k (es ++ (fs ++ gs))
-written_three plan p₁ p₂ p₃ k k₁ k₂ es fs gs e₁ q₁ e₂ q₂ e₃ =
-    e₃ ∙ ap (λ (p : List ℕ). written_all p k₂ gs) e₂ ∙ ap (λ (j : ℕ). written_all (written_all p₁ k₁ fs) j gs) q₂ ∙ written_both p₁ k₁ fs gs
-    ∙ ap (λ (p : List ℕ). written_all p k₁ (fs ++ gs)) e₁ ∙ ap (λ (j : ℕ). written_all (written_all plan k es) j (fs ++ gs)) q₁
-    ∙ written_both plan k es (fs ++ gs)
-
 written_on : (plan : List ℕ) (es fs : List Entry) (k : ℕ) → k ≡ length es → written_all (put_plan es plan) k fs ≡ put_plan (es ++ fs) plan
 unfolding written_all
-written_on plan es [] k h = ap (λ (l : List Entry). put_plan l plan) (sym (append_nil es))
-  where
-    append_nil : (l : List Entry) → l ++ [] ≡ l
-    append_nil [] = refl
-    append_nil (x ∷ l) = ap (λ (r : List Entry). x ∷ r) (append_nil l)
+written_on plan es [] k h = ap (λ (l : List Entry). put_plan l plan) (sym (append-nil es))
 written_on plan es (f ∷ fs) k h =
     ap (λ (p : List ℕ). written_all p (k + 1) fs) (write_next es plan k f h)
     ∙ written_on plan (es ++ (f ∷ [])) fs (k + 1) (omega (arith, length-append es (f ∷ [])))
@@ -75,17 +56,39 @@ written_on plan es (f ∷ fs) k h =
 pub written_put : (plan : List ℕ) (es : List Entry) → written_all plan 0 es ≡ put_plan es plan
 written_put plan es = ap (λ (p : List ℕ). written_all p 0 es) (sym (put_none plan)) ∙ written_on plan [] es 0 refl
 
--- an item, as the code writes it
-module _ (plan : List ℕ) (k : ℕ) (item : Item) where
-  pub put_nothing : item ≡ Nothing → (k ≡ k + length (listed item)) × (plan ≡ written_all plan k (listed item))
-  unfolding written_all
-  put_nothing e = rw e (omega arith, refl)
+-- what is still to write, once one more of the items is
+module _ (plan : List ℕ) (k : ℕ) (items : List (Option Entry)) (i : ℕ) (h : i < length items) (n : ℕ) (end : List ℕ)
+    (en : k + length (all_of (drop i items)) ≡ n) (ep : written_all plan k (all_of (drop i items)) ≡ end) where
+  items_on : all_of (drop i items) ≡ listed (get_or items i None) ++ all_of (drop (i + 1) items)
+  items_on = rw add-one (ap all_of (drop-cons items i None h))
 
-  pub put_one : (e : Entry) (plan' : List ℕ) → item ≡ One e → plan' ≡ written plan k e →
-      (k + 1 ≡ k + length (listed item)) × (plan' ≡ written_all plan k (listed item))
+  pub item_put : (e : Entry) (plan₁ : List ℕ) (k₁ : ℕ) → get_or items i None ≡ Some e → plan₁ ≡ written plan k e → k₁ ≡ k + 1 →
+      (k₁ + length (all_of (drop (i + 1) items)) ≡ n) × (written_all plan₁ k₁ (all_of (drop (i + 1) items)) ≡ end)
   unfolding written_all
-  put_one e plan' q h = rw q (refl, h)
+  item_put e plan₁ k₁ is p q =
+      let more : all_of (drop i items) ≡ e ∷ all_of (drop (i + 1) items) = items_on ∙ ap (λ (x : Option Entry). listed x ++ all_of (drop (i + 1) items)) is in
+      let l : length (all_of (drop i items)) ≡ suc (length (all_of (drop (i + 1) items))) = ap length more in
+      (omega arith, rw (p, q) (ap (written_all plan k) (sym more) ∙ ep))
 
-pub three_items : (a b d : Item) (es fs gs : List Entry) → listed a ≡ es → listed b ≡ fs → listed d ≡ gs →
-    all_of (record { first = a; second = b; third = d }) ≡ es ++ (fs ++ gs)
-three_items a b d es fs gs p q r = cc
+  pub item_none : (plan₁ : List ℕ) (k₁ : ℕ) → get_or items i None ≡ None → plan₁ ≡ plan → k₁ ≡ k →
+      (k₁ + length (all_of (drop (i + 1) items)) ≡ n) × (written_all plan₁ k₁ (all_of (drop (i + 1) items)) ≡ end)
+  item_none plan₁ k₁ is p q =
+      let more : all_of (drop i items) ≡ all_of (drop (i + 1) items) = items_on ∙ ap (λ (x : Option Entry). listed x ++ all_of (drop (i + 1) items)) is in
+      rw (p, q, ← more) (en, ep)
+
+-- nothing is left behind the last item
+pub items_done : (items : List (Option Entry)) (i : ℕ) → length items ≤ i → all_of (drop i items) ≡ []
+items_done items i h = ap all_of (drop_all i items h)
+
+-- how many entries there are, and there are no more than items
+pub all_counted : (items : List (Option Entry)) → (length (filter is_some items) ≡ length (all_of items)) × (length (all_of items) ≤ length items)
+all_counted [] = (refl, omega arith)
+all_counted (None ∷ items) = let h = all_counted items in (h.0, omega arith)
+all_counted (Some x ∷ items) = let h = all_counted items in (ap suc h.0, omega arith)
+
+pub alone : (a : Option Entry) → all_of (a ∷ []) ≡ listed a
+alone a = append-nil (listed a)
+
+pub three_items : (a b d : Option Entry) (es fs gs : List Entry) → listed a ≡ es → listed b ≡ fs → listed d ≡ gs →
+    all_of (a ∷ b ∷ d ∷ []) ≡ es ++ (fs ++ gs)
+three_items a b d es fs gs p q r = rw (append-nil (listed d)) cc

@@ -5,15 +5,13 @@
 --   links_formed, unlinks_formed the rows stay well formed and as many, and no other dart that was free is linked
 --   taken_back_lem, put_back         the code's way of undoing them gives back every row
 -- Assumes nothing.
-use Rattle.std.specs.Prelude.{◌≡◌, ℕ, Bool, true, false, ◌≢◌, List, length}
+use Rattle.std.specs.Prelude.{◌≡◌, ℕ, Bool, true, false, ◌≢◌, List, length, Err, is_ok}
 use native.Mathlib.Omega.{arith}
 use mathlib.Core.Path.{refl, sym, ap, ◌∙◌, subst}
 use borrow.Author.Tests.{eqb-true}
-use Rattle.map_betas.specs.declared.error.Answer.{Answer}
-use Rattle.map_betas.specs.declared.error.Answer.TheVariants.{Refused}
 use Rattle.map_betas.specs.declared.error.Refusal.TheVariants.{AsymmetricalFaces}
 use Rattle.map_betas.specs.Betas.{beta, darts}
-use Rattle.map_betas.specs.Answers.{Out, out, is_done, pass}
+use Rattle.map_betas.specs.Answers.{Out, out, nothing, Answer}
 use Rattle.map_betas.specs.Cores.{link_core, unlink_core}
 use Rattle.map_betas.specs.Guards.{Dart}
 use Rattle.map_betas.specs.Maps.{WellFormed, Free, Keeps}
@@ -36,25 +34,25 @@ module _ (rows : List ℕ) (ld rd : ℕ) where
   second = link_core (link_core rows 1 ld rd).rows 1 (beta rows 3 rd) (beta rows 3 ld)
 
 pub data LinksWay (rows : List ℕ) (ld rd : ℕ) : Type 0 where
-  stopped : is_done (first rows ld rd).answer ≡ false → one_links rows ld rd ≡ first rows ld rd → LinksWay rows ld rd
-  single : is_done (first rows ld rd).answer ≡ true → both_three rows ld rd ≡ false → one_links rows ld rd ≡ first rows ld rd → LinksWay rows ld rd
-  turned : is_done (first rows ld rd).answer ≡ true → is_done (second rows ld rd).answer ≡ false → one_links rows ld rd ≡ out (second rows ld rd).answer rows →
+  stopped : is_ok (first rows ld rd).answer ≡ false → one_links rows ld rd ≡ first rows ld rd → LinksWay rows ld rd
+  single : is_ok (first rows ld rd).answer ≡ true → both_three rows ld rd ≡ false → one_links rows ld rd ≡ first rows ld rd → LinksWay rows ld rd
+  turned : is_ok (first rows ld rd).answer ≡ true → is_ok (second rows ld rd).answer ≡ false → one_links rows ld rd ≡ out (second rows ld rd).answer rows →
       LinksWay rows ld rd
-  double : is_done (first rows ld rd).answer ≡ true → both_three rows ld rd ≡ true → is_done (second rows ld rd).answer ≡ true →
+  double : is_ok (first rows ld rd).answer ≡ true → both_three rows ld rd ≡ true → is_ok (second rows ld rd).answer ≡ true →
       one_links rows ld rd ≡ second rows ld rd → LinksWay rows ld rd
 
 pub links_way : (rows : List ℕ) (ld rd : ℕ) → LinksWay rows ld rd
 unfolding one_links
-links_way rows ld rd = go (is_done (first rows ld rd).answer) refl (both_three rows ld rd) refl (is_done (second rows ld rd).answer) refl
+links_way rows ld rd = go (is_ok (first rows ld rd).answer) refl (both_three rows ld rd) refl (is_ok (second rows ld rd).answer) refl
   where
-    go : (a : Bool) → is_done (first rows ld rd).answer ≡ a → (b : Bool) → both_three rows ld rd ≡ b → (s : Bool) → is_done (second rows ld rd).answer ≡ s →
+    go : (a : Bool) → is_ok (first rows ld rd).answer ≡ a → (b : Bool) → both_three rows ld rd ≡ b → (s : Bool) → is_ok (second rows ld rd).answer ≡ s →
         LinksWay rows ld rd
     go false ea b eb s es = stopped ea (simp ea)
     go true ea false eb s es = single ea eb (simp (ea, eb))
     go true ea true eb false es = turned ea es (simp (ea, eb, es))
     go true ea true eb true es = double ea eb es (simp (ea, eb, es))
 
-pub links_kept : (rows : List ℕ) (ld rd : ℕ) → is_done (one_links rows ld rd).answer ≡ false → (one_links rows ld rd).rows ≡ rows
+pub links_kept : (rows : List ℕ) (ld rd : ℕ) → is_ok (one_links rows ld rd).answer ≡ false → (one_links rows ld rd).rows ≡ rows
 links_kept rows ld rd t = go (links_way rows ld rd)
   where
     go : LinksWay rows ld rd → (one_links rows ld rd).rows ≡ rows
@@ -117,7 +115,7 @@ module _ (rows : List ℕ) (ld rd : ℕ) (w : WellFormed rows) (dl : Dart (darts
       go (turned a s e) = rw (rows_same _ _ e) (keeps_same ld rd rows w)
       go (double a b s e) = rw (rows_same _ _ e) (kept₂ b)
 
-  module _ (t : is_done (one_links rows ld rd).answer ≡ true) where
+  module _ (t : is_ok (one_links rows ld rd).answer ≡ true) where
     pub links_dart : 0 ≡ dart_of (one_links rows ld rd).answer
     links_dart = go (links_way rows ld rd)
       where
@@ -131,7 +129,7 @@ module _ (rows : List ℕ) (ld rd : ℕ) (w : WellFormed rows) (dl : Dart (darts
             (ap (λ (o : Out). dart_of o.answer)
             (e ∙ (link_pair (first rows ld rd).rows 1 _ _ formed₁ (omega arith) (omega arith) (dart_r b) (dart_l b) s).1))
 
-    undone₁ : is_done (first rows ld rd).answer ≡ true → (unlink_core (first rows ld rd).rows 1 ld).rows ≡ rows
+    undone₁ : is_ok (first rows ld rd).answer ≡ true → (unlink_core (first rows ld rd).rows 1 ld).rows ≡ rows
     undone₁ a = rows_same _ _ (unlink_undoes rows 1 ld rd w (omega arith) (omega arith) dl dr a)
 
     pub taken_back_lem : taken_back (one_links rows ld rd).rows ld rd ≡ rows
@@ -158,21 +156,21 @@ abbrev parted : List ℕ → ℕ → Out
 parted rows ld = unlink_core rows 1 ld
 
 pub data UnlinksWay (rows : List ℕ) (ld : ℕ) : Type 0 where
-  refused : is_done (parted rows ld).answer ≡ false → one_unlinks rows ld ≡ parted rows ld → UnlinksWay rows ld
-  stray : (x : Answer) → is_done x ≡ false → one_unlinks rows ld ≡ out x rows → UnlinksWay rows ld
-  through : is_done (parted rows ld).answer ≡ true → agrees (parted rows ld).rows ld (beta rows 1 ld) ≡ true →
+  refused : is_ok (parted rows ld).answer ≡ false → one_unlinks rows ld ≡ parted rows ld → UnlinksWay rows ld
+  stray : (x : Answer) → is_ok x ≡ false → one_unlinks rows ld ≡ out x rows → UnlinksWay rows ld
+  through : is_ok (parted rows ld).answer ≡ true → agrees (parted rows ld).rows ld (beta rows 1 ld) ≡ true →
       one_unlinks rows ld ≡ out (parted rows ld).answer (second_cut (parted rows ld).rows ld (beta rows 1 ld)) → UnlinksWay rows ld
 
 pub unlinks_way : (rows : List ℕ) (ld : ℕ) → UnlinksWay rows ld
 unfolding one_unlinks
-unlinks_way rows ld = go (is_done (parted rows ld).answer) refl (agrees (parted rows ld).rows ld (beta rows 1 ld)) refl
+unlinks_way rows ld = go (is_ok (parted rows ld).answer) refl (agrees (parted rows ld).rows ld (beta rows 1 ld)) refl
   where
-    go : (a : Bool) → is_done (parted rows ld).answer ≡ a → (b : Bool) → agrees (parted rows ld).rows ld (beta rows 1 ld) ≡ b → UnlinksWay rows ld
+    go : (a : Bool) → is_ok (parted rows ld).answer ≡ a → (b : Bool) → agrees (parted rows ld).rows ld (beta rows 1 ld) ≡ b → UnlinksWay rows ld
     go false ea b eb = refused ea (simp ea)
-    go true ea false eb = stray (Refused (AsymmetricalFaces ld (beta rows 1 ld))) refl (simp (ea, eb))
+    go true ea false eb = stray (Err (AsymmetricalFaces ld (beta rows 1 ld))) refl (simp (ea, eb))
     go true ea true eb = through ea eb (simp (ea, eb))
 
-pub unlinks_kept : (rows : List ℕ) (ld : ℕ) → is_done (one_unlinks rows ld).answer ≡ false → (one_unlinks rows ld).rows ≡ rows
+pub unlinks_kept : (rows : List ℕ) (ld : ℕ) → is_ok (one_unlinks rows ld).answer ≡ false → (one_unlinks rows ld).rows ≡ rows
 unlinks_kept rows ld t = go (unlinks_way rows ld)
   where
     go : UnlinksWay rows ld → (one_unlinks rows ld).rows ≡ rows
@@ -203,7 +201,7 @@ module _ (rows : List ℕ) (ld : ℕ) (w : WellFormed rows) where
       go (through a b e) =
           rw (rows_same _ _ e) (keeps_then ld ld rows _ _ kept_cut (cut_formed (parted rows ld).rows ld (beta rows 1 ld) cut₁))
 
-  module _ (t : is_done (one_unlinks rows ld).answer ≡ true) where
+  module _ (t : is_ok (one_unlinks rows ld).answer ≡ true) where
     pub unlinks_dart : dart_of (one_unlinks rows ld).answer ≡ beta rows 1 ld
     unlinks_dart = go (unlinks_way rows ld)
       where
@@ -219,10 +217,10 @@ module _ (rows : List ℕ) (ld : ℕ) (w : WellFormed rows) where
         rd : ℕ
         rd = beta rows 1 ld
 
-        linked : is_done (parted rows ld).answer ≡ true → (link_core (parted rows ld).rows 1 ld (beta rows 1 ld)).rows ≡ rows
+        linked : is_ok (parted rows ld).answer ≡ true → (link_core (parted rows ld).rows 1 ld (beta rows 1 ld)).rows ≡ rows
         linked a = rows_same _ _ (link_undoes rows 1 ld w (omega arith) (omega arith) a)
 
-        second_back : is_done (parted rows ld).answer ≡ true → agrees (parted rows ld).rows ld (beta rows 1 ld) ≡ true → (b : Bool) →
+        second_back : is_ok (parted rows ld).answer ≡ true → agrees (parted rows ld).rows ld (beta rows 1 ld) ≡ true → (b : Bool) →
             both_three (parted rows ld).rows ld (beta rows 1 ld) ≡ b →
             second_put (second_cut (parted rows ld).rows ld (beta rows 1 ld)) ld (beta rows 1 ld) ≡ (parted rows ld).rows
         second_back a g false eb =
@@ -234,14 +232,14 @@ module _ (rows : List ℕ) (ld : ℕ) (w : WellFormed rows) where
             let l3 : ℕ = beta x 3 ld in
             let q : beta x 1 r3 ≡ l3 = agrees_back x ld (beta rows 1 ld) eb g in
             let n : beta x 1 r3 ≢ 0 = λ z. both_left x ld (beta rows 1 ld) eb (sym q ∙ z) in
-            let s : is_done (unlink_core x 1 r3).answer ≡ true =
-            sym (ap (λ (o : Out). is_done o.answer) (unlink_done x 1 r3 _ _ _ _ refl refl n refl refl)) in
+            let s : is_ok (unlink_core x 1 r3).answer ≡ true =
+            sym (ap (λ (o : Out). is_ok o.answer) (unlink_done x 1 r3 _ _ _ _ refl refl n refl refl)) in
             let y : List ℕ = (unlink_core x 1 r3).rows in
             let three : (d : ℕ) → beta y 3 d ≡ beta x 3 d =
             λ d. unlink_other x 1 r3 cut₁ (omega arith) (omega arith) 3 d (omega arith) (λ z. absurd (omega arith)) (λ z. absurd (omega arith)) in
             ap (λ (z : List ℕ). second_put z ld (beta rows 1 ld)) (sym (cut_some x ld (beta rows 1 ld) r3 _ y eb refl refl))
             ∙ sym
-            (put_some y ld (beta rows 1 ld) r3 l3 pass x (both_same x y ld (beta rows 1 ld) three ∙ eb) (sym (three (beta rows 1 ld))) (sym (three ld))
+            (put_some y ld (beta rows 1 ld) r3 l3 nothing x (both_same x y ld (beta rows 1 ld) three ∙ eb) (sym (three (beta rows 1 ld))) (sym (three ld))
             (sym (link_undoes x 1 r3 cut₁ (omega arith) (omega arith) s) ∙ ap (link_core y 1 r3) q))
 
         go : UnlinksWay rows ld → relinked (one_unlinks rows ld).rows ld (beta rows 1 ld) ≡ rows

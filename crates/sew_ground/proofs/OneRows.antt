@@ -1,9 +1,8 @@
 -- The rows that a part of a sew has left are a map, as the code has them: `one_linked`, `one_unlinked`, `core_linked`, `core_unlinked`. Assumes nothing.
 use Rattle.std.specs.Prelude.{◌≡◌, ℕ, ◌<◌, ◌≤◌, List}
 use mathlib.Core.Path.{ap}
-use Rattle.map_betas.specs.declared.error.Answer.{Answer}
 use Rattle.map_betas.specs.Betas.{darts}
-use Rattle.map_betas.specs.Answers.{Out, out}
+use Rattle.map_betas.specs.Answers.{Out, out, Answer}
 use Rattle.map_betas.specs.Cores.{link_core, unlink_core}
 use Rattle.map_betas.specs.Guards.{Dart}
 use Rattle.map_betas.specs.Maps.{WellFormed}

@@ -3,13 +3,11 @@
 --   sewn_kept   a work that does so does so with any room
 --   one_sew_kept, one_unsew_kept, two_sew_kept, two_unsew_kept   each work
 -- Assumes nothing.
-use Rattle.std.specs.Prelude.{ℕ, Bool, true, false, cond, List, []}
+use Rattle.std.specs.Prelude.{ℕ, Bool, true, false, cond, List, [], Err, is_ok}
 use native.Mathlib.Omega.{arith}
 use lib.Ieee.{Float}
-use Rattle.map_betas.specs.declared.error.Answer.TheVariants.{Refused}
 use Rattle.map_betas.specs.declared.error.Refusal.TheVariants.{BadGeometry}
 use Rattle.map_betas.specs.Betas.{darts}
-use Rattle.map_betas.specs.Answers.{is_done}
 use Rattle.map_betas.specs.Guards.{Dart}
 use Rattle.map_betas.specs.Maps.{WellFormed, Keeps}
 use Rattle.map_betas.proofs.Spared.{keeps_same, link_keeps_all, unlink_keeps_all}
@@ -26,13 +24,13 @@ module _ (a b : ℕ) (rows plan : List ℕ) (w : WellFormed rows) where
 
   pub sewn_kept : (x : Work) → Keeps a b rows x.rows → Keeps a b rows (sewn rows plan x).rows
   unfolding sewn
-  sewn_kept x k = go (is_done x.answer)
+  sewn_kept x k = go (is_ok x.answer)
     where
       s : Settled
       s = settled plan (dart_of x.answer) x.entries
 
       go : (c : Bool) → Keeps a b rows (cond c (after_plan rows x.rows s) (leaves x.answer rows plan)).rows
-      go true = either (is_done s.answer) x.rows k
+      go true = either (is_ok s.answer) x.rows k
       go false = keeps_same a b rows w
 
 module _ (rows : List ℕ) (ld : ℕ) (w : WellFormed rows) where
@@ -54,6 +52,6 @@ module _ (rows : List ℕ) (ld : ℕ) (w : WellFormed rows) where
   two_sew_kept vertices coordinates rd dl dr = go (bad_sides vertices coordinates (side_of rows ld) (side_of rows rd))
     where
       go : (c : Bool) →
-          Keeps ld rd rows (cond c (work (Refused (BadGeometry 2 ld rd)) rows []) (linked_sides rows ld rd (side_of rows ld) (side_of rows rd))).rows
+          Keeps ld rd rows (cond c (work (Err (BadGeometry 2 ld rd)) rows []) (linked_sides rows ld rd (side_of rows ld) (side_of rows rd))).rows
       go true = keeps_same ld rd rows w
       go false = link_keeps_all rows 2 ld w (omega arith) (omega arith) rd dl dr

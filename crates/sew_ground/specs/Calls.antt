@@ -5,9 +5,8 @@
 --   one_sew, one_unsew, two_sew, two_unsew   the calls
 use Rattle.std.specs.Prelude.{ℕ, List, length}
 use Rattle.std.specs.Prelude.{Float}
-use Rattle.map_betas.specs.declared.error.Answer.{Answer}
 use Rattle.map_betas.specs.Betas.{darts}
-use Rattle.map_betas.specs.Answers.{Outcome, outcome, behind}
+use Rattle.map_betas.specs.Answers.{Outcome, outcome, behind, Test}
 use Rattle.map_betas.specs.Guards.{scratch_of, vertex_loans, guard_of}
 use Rattle.cell_steps.specs.Calls.{wiped}
 use Rattle.sew_ground.specs.Sewn.{Work, Sewn, sewn}
@@ -21,10 +20,10 @@ SewLoans = List ℕ × List ℕ × List ℕ × List ℕ
 abbrev pub sew_done : ℕ → List ℕ → List ℕ → Sewn → Outcome SewLoans
 sew_done n marks queue s = outcome s.answer (s.rows, wiped n marks, wiped n queue, s.plan)
 
-abbrev pub sew_call : Answer → List ℕ → List ℕ → List ℕ → List ℕ → Work → Outcome SewLoans
+abbrev pub sew_call : Test → List ℕ → List ℕ → List ℕ → List ℕ → Work → Outcome SewLoans
 sew_call g rows marks queue plan w = behind g (rows, marks, queue, plan) (sew_done (darts rows) marks queue (sewn rows plan w))
 
-abbrev pub sew_guard : List ℕ → List ℕ → List ℕ → List ℕ → ℕ → ℕ → Answer
+abbrev pub sew_guard : List ℕ → List ℕ → List ℕ → List ℕ → ℕ → ℕ → Test
 sew_guard rows marks queue flags ld rd = guard_of rows flags (scratch_of (length marks) (length queue)) 1 ld rd
 
 unfoldable pub one_sew : List ℕ → List ℕ → List ℕ → List ℕ → List ℕ → ℕ → ℕ → Outcome SewLoans

@@ -1,15 +1,15 @@
 -- The 1-sew and the 1-unsew of real darts of a well-formed map.
 --   both_three rows ld rd   whether ld and rd both have beta 3
+--   faced rows ld rd        their images by beta 3, where both have one
 --   one_far rows d          m: the larger of beta 3 and beta 2 of d
 --   one_entries k rows ld rd   the vertex merge or split
 --   one_links, one_unlinks   the links that a 1-sew makes; the unlinks of a 1-unsew
 --   one_sew_on, one_unsew_on   the whole
 --   taken_back, relinked    the rows with those links, or unlinks, undone in the reverse order
-use Rattle.std.specs.Prelude.{ℕ, Bool, cond, not, ◌&&◌, ◌||◌, List, ◌==◌}
-use Rattle.map_betas.specs.declared.error.Answer.TheVariants.{Refused}
+use Rattle.std.specs.Prelude.{max, ℕ, Bool, cond, not, ◌&&◌, ◌||◌, List, ◌==◌, Option, Some, None, Err, is_ok}
 use Rattle.map_betas.specs.declared.error.Refusal.TheVariants.{AsymmetricalFaces}
-use Rattle.map_betas.specs.Betas.{beta, larger}
-use Rattle.map_betas.specs.Answers.{Out, out, is_done}
+use Rattle.map_betas.specs.Betas.{beta}
+use Rattle.map_betas.specs.Answers.{Out, out}
 use Rattle.map_betas.specs.Cores.{link_core, unlink_core}
 use Rattle.cell_steps.specs.declared.cells.Class.TheVariants.{Vertex}
 use Rattle.cell_steps.specs.Idents.{cell_of}
@@ -22,9 +22,12 @@ use Rattle.sew_ground.specs.Sewn.{Work, work, dart_of}
 unfoldable pub both_three : List ℕ → ℕ → ℕ → Bool
 both_three rows ld rd = not (beta rows 3 ld == 0) && not (beta rows 3 rd == 0)
 
+abbrev pub faced : List ℕ → ℕ → ℕ → Option (ℕ × ℕ)
+faced rows ld rd = cond (both_three rows ld rd) (Some (beta rows 3 ld, beta rows 3 rd)) None
+
 -- the far end of a dart in a 1-sew: by beta 3, or by beta 2 where that is the larger (scope: far end)
 abbrev pub one_far : List ℕ → ℕ → ℕ
-one_far rows d = larger (beta rows 3 d) (beta rows 2 d)
+one_far rows d = max (beta rows 3 d) (beta rows 2 d)
 
 -- scope: 1-sew. The vertices of ld's far end and of rd, if there is a far end and they are not one already.
 unfoldable pub one_entries : Kind → List ℕ → ℕ → ℕ → List Entry
@@ -32,11 +35,11 @@ one_entries kind rows ld rd = entries_if (not (one_far rows ld == 0)) Vertex kin
 
 -- two links are done or neither is: a refusal of the second gives back the rows of the start
 abbrev pub or_back : List ℕ → Out → Out
-or_back rows o = cond (is_done o.answer) o (out o.answer rows)
+or_back rows o = cond (is_ok o.answer) o (out o.answer rows)
 
 abbrev pub after_link : List ℕ → ℕ → ℕ → Out → Out
 after_link rows ld rd o =
-    cond (is_done o.answer) (cond (both_three rows ld rd) (or_back rows (link_core o.rows 1 (beta rows 3 rd) (beta rows 3 ld))) o) o
+    cond (is_ok o.answer) (cond (both_three rows ld rd) (or_back rows (link_core o.rows 1 (beta rows 3 rd) (beta rows 3 ld))) o) o
 
 unfoldable pub one_links : List ℕ → ℕ → ℕ → Out
 one_links rows ld rd = after_link rows ld rd (link_core rows 1 ld rd)
@@ -59,8 +62,8 @@ agrees rows ld rd = not (both_three rows ld rd) || beta rows 1 (beta rows 3 rd) 
 -- That second unlink is of a dart that has beta 1, so that it never refuses.
 abbrev pub after_unlink : List ℕ → ℕ → ℕ → Out → Out
 after_unlink rows ld rd o =
-    cond (is_done o.answer)
-    (cond (agrees o.rows ld rd) (out o.answer (second_cut o.rows ld rd)) (out (Refused (AsymmetricalFaces ld rd)) rows))
+    cond (is_ok o.answer)
+    (cond (agrees o.rows ld rd) (out o.answer (second_cut o.rows ld rd)) (out (Err (AsymmetricalFaces ld rd)) rows))
     o
 
 unfoldable pub one_unlinks : List ℕ → ℕ → Out

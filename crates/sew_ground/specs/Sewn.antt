@@ -4,11 +4,9 @@
 --   settled     entries with the room that the plan has: written, or refusal 11
 --   sewn        a work, with the room that the plan has: refusal 11 where it does not fit, and only then
 --   dart_of      the dart of an answer
-use Rattle.std.specs.Prelude.{ℕ, cond, List, length, nat_le}
-use Rattle.map_betas.specs.declared.error.Answer.{Answer}
-use Rattle.map_betas.specs.declared.error.Answer.TheVariants.{Done, Refused}
+use Rattle.std.specs.Prelude.{ℕ, cond, List, length, nat_le, Err, Ok, is_ok}
 use Rattle.map_betas.specs.declared.error.Refusal.TheVariants.{PlanRoom}
-use Rattle.map_betas.specs.Answers.{is_done}
+use Rattle.map_betas.specs.Answers.{Answer, done}
 use Rattle.sew_plan.specs.declared.Entry.{Entry}
 use Rattle.sew_plan.specs.Plan.{room_of, put_plan}
 
@@ -29,8 +27,8 @@ abbrev pub leaves : Answer → List ℕ → List ℕ → Sewn
 leaves a rows plan = record { answer = a; rows = rows; plan = plan }
 
 abbrev pub dart_of : Answer → ℕ
-dart_of (Done d k) = d
-dart_of (Refused w) = 0
+dart_of (Ok x) = x.value
+dart_of (Err w) = 0
 
 -- the answer with the count of entries, and the plan
 pub record Settled : Type 0 where
@@ -43,12 +41,12 @@ settles a plan = record { answer = a; plan = plan }
 -- scope: room. The entries where they fit, else how many there are.
 unfoldable pub settled : List ℕ → ℕ → List Entry → Settled
 settled plan d es =
-    cond (nat_le (length es) (room_of plan)) (settles (Done d (length es)) (put_plan es plan)) (settles (Refused (PlanRoom (length es))) plan)
+    cond (nat_le (length es) (room_of plan)) (settles (done d (length es)) (put_plan es plan)) (settles (Err (PlanRoom (length es))) plan)
 
 -- where the plan had no room, the rows of the start
 abbrev pub after_plan : List ℕ → List ℕ → Settled → Sewn
-after_plan rows rows' s = leaves s.answer (cond (is_done s.answer) rows' rows) s.plan
+after_plan rows rows' s = leaves s.answer (cond (is_ok s.answer) rows' rows) s.plan
 
 unfoldable pub sewn : List ℕ → List ℕ → Work → Sewn
 sewn rows plan w =
-    cond (is_done w.answer) (after_plan rows w.rows (settled plan (dart_of w.answer) w.entries)) (leaves w.answer rows plan)
+    cond (is_ok w.answer) (after_plan rows w.rows (settled plan (dart_of w.answer) w.entries)) (leaves w.answer rows plan)

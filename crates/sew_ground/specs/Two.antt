@@ -3,11 +3,10 @@
 --   two_entries k l r    the edge and the vertices that merge or split
 --   linked_sides         the link of two sides, with its merges
 --   two_sew_on, two_unsew_on   the whole
-use Rattle.std.specs.Prelude.{ℕ, Bool, true, cond, not, List, [], ◌++◌, ◌==◌}
+use Rattle.std.specs.Prelude.{max, ℕ, Bool, true, cond, not, List, [], ◌++◌, ◌==◌, Err}
 use Rattle.std.specs.Prelude.{Float}
-use Rattle.map_betas.specs.declared.error.Answer.TheVariants.{Refused}
 use Rattle.map_betas.specs.declared.error.Refusal.TheVariants.{BadGeometry}
-use Rattle.map_betas.specs.Betas.{beta, larger}
+use Rattle.map_betas.specs.Betas.{beta}
 use Rattle.map_betas.specs.Cores.{link_core, unlink_core}
 use Rattle.cell_steps.specs.declared.cells.Class.TheVariants.{Vertex, Edge}
 use Rattle.cell_steps.specs.Idents.{cell_of}
@@ -21,7 +20,7 @@ use Rattle.sew_ground.specs.Sewn.{Work, work, dart_of}
 
 -- the far end of a dart in a 2-sew: by beta 1, or by beta 3 where that is the larger (scope: far end)
 abbrev pub far_of : List ℕ → ℕ → ℕ
-far_of rows d = larger (beta rows 1 d) (beta rows 3 d)
+far_of rows d = max (beta rows 1 d) (beta rows 3 d)
 
 unfoldable pub side_of : List ℕ → ℕ → Side
 side_of rows d =
@@ -42,7 +41,7 @@ linked_sides rows ld rd l r = work (link_core rows 2 ld rd).answer (link_core ro
 
 unfoldable pub two_sew_on : List ℕ → List Float → List ℕ → ℕ → ℕ → Work
 two_sew_on vertices coordinates rows ld rd =
-    cond (bad_sides vertices coordinates (side_of rows ld) (side_of rows rd)) (work (Refused (BadGeometry 2 ld rd)) rows [])
+    cond (bad_sides vertices coordinates (side_of rows ld) (side_of rows rd)) (work (Err (BadGeometry 2 ld rd)) rows [])
     (linked_sides rows ld rd (side_of rows ld) (side_of rows rd))
 
 -- scope: 2-unsew. Unlinked first, so that names and sizes are those of the cells which it leaves.

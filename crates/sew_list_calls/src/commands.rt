@@ -3,7 +3,7 @@ ghost use Rattle.std.specs.Prelude.{◌≡◌};
 ghost use Rattle.map_betas.specs.Answers.{outcome};
 ghost use Rattle.sew_commands.specs.Calls.{commands_lent, commands as commandsOf};
 
-use map_betas::error::{Answer, is_done};
+use map_betas::error::{Answer, Refusal};
 use map_betas::loans::{Loans, command_loans};
 use map_guard::guard::loan_test;
 use map_test::structure::size_test;
@@ -11,13 +11,10 @@ use sew_answers::answers::WIDTH;
 use sew_list_tested::tested::commands_lent;
 
 // Refusals 1 and 2: rows of no map's size, and the first loan that is too short.
-fn lent_test(rows: &[u32], flags: &[u8], loans: Loans) -> Answer
+fn lent_test(rows: &[u32], flags: &[u8], loans: Loans) -> Result<(), Refusal>
     ensures { result ≡ commands_lent rows.now flags.now loans }
 {
-    let s = size_test(rows);
-    if !is_done(s) {
-        return s;
-    }
+    size_test(rows)?;
     loan_test(rows.len() / 4, flags.len(), loans)
 }
 
@@ -46,10 +43,7 @@ pub fn commands(
         vertices.len(),
         coordinates.len(),
     );
-    let t = lent_test(rows, flags, loans);
-    if !is_done(t) {
-        return t;
-    }
+    lent_test(rows, flags, loans)?;
     commands_lent(
         rows,
         marks,

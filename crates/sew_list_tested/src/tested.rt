@@ -6,8 +6,7 @@ ghost use Rattle.map_betas.specs.Maps.{Sized};
 ghost use Rattle.map_betas.specs.Guards.{Lent};
 ghost use Rattle.sew_commands.specs.Calls.{loans_for, list_tested};
 
-use cell_scratch::scratch::{wipe_marks, wipe_queue};
-use map_betas::error::{Answer, Refusal, is_done};
+use map_betas::error::{Answer, Refusal};
 use map_test::structure::map_test;
 use sew_list_wiped::wiped::make_wiped;
 
@@ -31,14 +30,11 @@ pub fn commands_lent(
 {
     if list.len() % 3 != 0 {
         let n = rows.len() / 4;
-        wipe_marks(marks, n);
-        wipe_queue(queue, n);
-        return Answer::Refused(Refusal::BadCommand(0));
+        marks[..n].fill(0);
+        queue[..n].fill(0);
+        return Err(Refusal::BadCommand(0));
     }
-    let m = map_test(rows, flags);
-    if !is_done(m) {
-        return m;
-    }
+    map_test(rows, flags)?;
     make_wiped(
         rows,
         marks,

@@ -8,8 +8,7 @@ ghost use Rattle.sew_commands.specs.Commands.{run};
 ghost use Rattle.sew_commands.specs.Lists.{made, filled};
 ghost use Rattle.sew_commands.specs.Calls.{list_done};
 
-use cell_scratch::scratch::{wipe_marks, wipe_queue};
-use map_betas::error::Answer;
+use map_betas::error::{Answer, Done};
 use sew_lists::lists::make_all;
 
 // A list on a map: scratch is wiped, and its first n places are lent on.
@@ -33,8 +32,8 @@ pub fn make_wiped(
         (made (run flags.now vertices.now coordinates.now) list.now rows.old plan.old)) }
 {
     let n = rows.len() / 4;
-    wipe_marks(marks, n);
-    wipe_queue(queue, n);
+    marks[..n].fill(0);
+    queue[..n].fill(0);
     let entries = make_all(
         rows,
         &mut marks[..n],
@@ -46,5 +45,8 @@ pub fn make_wiped(
         plan,
         list,
     );
-    Answer::Done(0, entries)
+    Ok(Done {
+        value: 0,
+        count: entries,
+    })
 }

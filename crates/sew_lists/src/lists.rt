@@ -76,9 +76,8 @@ pub fn make_all(
     ensures marks_unchanged { (marks.new ≡ marks.old) × (queue.new ≡ queue.old) }
 {
     let count = list.len() / 3;
-    let mut k: usize = 0;
     let mut written: usize = 0;
-    while k < count {
+    for k in 0..count {
         written = make_one(
             rows,
             marks,
@@ -92,7 +91,6 @@ pub fn make_all(
             k,
             written,
         );
-        k += 1;
     }
     written
 }

@@ -5,34 +5,37 @@ ghost use Rattle.map_betas.specs.Answers.{out};
 ghost use Rattle.map_betas.specs.Cores.{link_core, unlink_core};
 ghost use Rattle.map_betas.specs.Guards.{Dart};
 ghost use Rattle.map_betas.specs.Maps.{WellFormed};
-ghost use Rattle.sew_ground.specs.Sewn.{dart_of};
-ghost use Rattle.sew_ground.specs.One.{both_three, or_back, one_links, agrees, second_cut, second_put, one_unlinks, taken_back, relinked};
+ghost use Rattle.sew_ground.specs.One.{faced, or_back, one_links, agrees, second_cut, second_put, one_unlinks, taken_back, relinked};
 
 use map_betas::betas::{beta_at, link_core, unlink_core};
-use map_betas::error::{Answer, Refusal, is_done};
+use map_betas::error::{Answer, Refusal};
 
 // The second link, of r3 and l3; or what it refuses, with ld unlinked again.
 fn second_link(rows: &mut [u32], ld: u32, r3: u32, l3: u32) -> Answer
     requires { WellFormed rows.old × (ld < darts rows.old) × (r3 < darts rows.old) × (l3 < darts rows.old) }
     ensures { out result rows.new ≡ or_back (unlink_core rows.old 1 ld).rows (link_core rows.old 1 r3 l3) }
 {
-    let b = link_core(rows, 1, r3, l3);
-    if !is_done(b) {
+    let linked = link_core(rows, 1, r3, l3);
+    if linked.is_err() {
         let _ = unlink_core(rows, 1, ld);
-        return b;
     }
-    b
+    linked
 }
 
-// Whether ld and rd both have beta 3.
-fn both_three(rows: &[u32], ld: u32, rd: u32) -> bool
+// The images of ld and rd by beta 3, where both have one.
+fn faced(rows: &[u32], ld: u32, rd: u32) -> Option<(u32, u32)>
     requires { (4 * ld + 3 < length rows.now) × (4 * rd + 3 < length rows.now) }
-    ensures { result ≡ both_three rows.now ld rd }
+    ensures { result ≡ faced rows.now ld rd }
 {
-    if beta_at(rows, 3, ld) == 0 {
-        return false;
+    let l3 = beta_at(rows, 3, ld);
+    let r3 = beta_at(rows, 3, rd);
+    if l3 == 0 {
+        return None;
     }
-    beta_at(rows, 3, rd) != 0
+    if r3 == 0 {
+        return None;
+    }
+    Some((l3, r3))
 }
 
 // Links ld and rd, and beta 3 of rd and beta 3 of ld where there are both.
@@ -40,17 +43,12 @@ pub fn one_links(rows: &mut [u32], ld: u32, rd: u32) -> Answer
     requires { WellFormed rows.old × Dart (darts rows.old) 1 ld × Dart (darts rows.old) 1 rd }
     ensures { out result rows.new ≡ one_links rows.old ld rd }
 {
-    let two = both_three(rows, ld, rd);
-    let l3 = beta_at(rows, 3, ld);
-    let r3 = beta_at(rows, 3, rd);
-    let a = link_core(rows, 1, ld, rd);
-    if !is_done(a) {
-        return a;
+    let images = faced(rows, ld, rd);
+    let linked = link_core(rows, 1, ld, rd)?;
+    match images {
+        Some((l3, r3)) => second_link(rows, ld, r3, l3),
+        None => Ok(linked),
     }
-    if !two {
-        return a;
-    }
-    second_link(rows, ld, r3, l3)
 }
 
 // Unlinks beta 3 of rd and beta 3 of ld, where there are both.
@@ -58,10 +56,9 @@ fn cut_second(rows: &mut [u32], ld: u32, rd: u32)
     requires { WellFormed rows.old × (ld < darts rows.old) × (rd < darts rows.old) }
     ensures { rows.new ≡ second_cut rows.old ld rd }
 {
-    if !both_three(rows, ld, rd) {
+    let Some((_, r3)) = faced(rows, ld, rd) else {
         return;
-    }
-    let r3 = beta_at(rows, 3, rd);
+    };
     let _ = unlink_core(rows, 1, r3);
 }
 
@@ -70,11 +67,9 @@ fn put_second(rows: &mut [u32], ld: u32, rd: u32)
     requires { WellFormed rows.old × (ld < darts rows.old) × (rd < darts rows.old) }
     ensures { rows.new ≡ second_put rows.old ld rd }
 {
-    if !both_three(rows, ld, rd) {
+    let Some((l3, r3)) = faced(rows, ld, rd) else {
         return;
-    }
-    let l3 = beta_at(rows, 3, ld);
-    let r3 = beta_at(rows, 3, rd);
+    };
     let _ = link_core(rows, 1, r3, l3);
 }
 
@@ -101,20 +96,9 @@ fn agree(rows: &[u32], ld: u32, rd: u32) -> bool
     requires { WellFormed rows.now × (ld < darts rows.now) × (rd < darts rows.now) }
     ensures { result ≡ agrees rows.now ld rd }
 {
-    if !both_three(rows, ld, rd) {
-        return true;
-    }
-    let r3 = beta_at(rows, 3, rd);
-    beta_at(rows, 1, r3) == beta_at(rows, 3, ld)
-}
-
-// The dart of an answer.
-pub fn dart_of(a: Answer) -> u32
-    ensures { result ≡ dart_of a }
-{
-    match a {
-        Answer::Done(d, _) => d,
-        Answer::Refused(_) => 0,
+    match faced(rows, ld, rd) {
+        Some((l3, r3)) => beta_at(rows, 1, r3) == l3,
+        None => true,
     }
 }
 
@@ -123,15 +107,12 @@ pub fn one_unlinks(rows: &mut [u32], ld: u32) -> Answer
     requires { WellFormed rows.old × Dart (darts rows.old) 1 ld }
     ensures { out result rows.new ≡ one_unlinks rows.old ld }
 {
-    let a = unlink_core(rows, 1, ld);
-    if !is_done(a) {
-        return a;
-    }
-    let rd = dart_of(a);
+    let parted = unlink_core(rows, 1, ld)?;
+    let rd = parted.value;
     if !agree(rows, ld, rd) {
         let _ = link_core(rows, 1, ld, rd);
-        return Answer::Refused(Refusal::AsymmetricalFaces(ld, rd));
+        return Err(Refusal::AsymmetricalFaces(ld, rd));
     }
     cut_second(rows, ld, rd);
-    a
+    Ok(parted)
 }

@@ -1,18 +1,15 @@
 -- The laws of the operations.
 --   lent_marks, lent_queue, lent_slots   what an operation is lent, once its guard has passed
---   loans_are, work_is   the loans and the work that a match has found
+--   loans_are    the loans that a match has found
 --   slots_are    the slots that a match has found
 -- Assumes nothing.
 use Prim.Native.Nat.{ℕ, ◌≤◌}
 use mathlib.Core.Path.{◌≡◌, sym, ap, ◌∙◌, subst}
-use mathlib.Core.List.{List}
-use lib.Ieee.{Float}
 use Rattle.map_betas.specs.declared.loans.Loans.{Loans}
 use Rattle.map_betas.specs.Guards.{Lent}
-use Rattle.sew_ground.specs.Sewn.{Sewn, sewn}
 use Rattle.sew_operations.specs.declared.operations.Operation.{Operation}
 use Rattle.sew_operations.specs.declared.operations.Operation.TheVariants.{OneSew, OneUnsew, TwoSew, TwoUnsew, ThreeUnsew}
-use Rattle.sew_operations.specs.Operations.{work_of, loans_of, Slots}
+use Rattle.sew_operations.specs.Operations.{loans_of, Slots}
 
 module _ (n marks queue vertices coordinates : ℕ) where
   pub lent_marks : (op : Operation) → Lent n (loans_of op marks queue vertices coordinates) → n ≤ marks
@@ -35,10 +32,6 @@ module _ (n marks queue vertices coordinates : ℕ) where
   lent_slots TwoSew l = (l.vertices, l.coordinates)
   lent_slots TwoUnsew l = tt
   lent_slots ThreeUnsew l = tt
-
-pub work_is : (o k : Operation) (vertices : List ℕ) (coordinates : List Float) (rows plan : List ℕ) (ld rd : ℕ) (s : Sewn) → o ≡ k →
-    s ≡ sewn rows plan (work_of k vertices coordinates rows ld rd) → s ≡ sewn rows plan (work_of o vertices coordinates rows ld rd)
-work_is o k vertices coordinates rows plan ld rd s e h = h ∙ ap (λ (x : Operation). sewn rows plan (work_of x vertices coordinates rows ld rd)) (sym e)
 
 pub loans_are : (o k : Operation) (marks queue vertices coordinates : ℕ) (l : Loans) → o ≡ k → l ≡ loans_of k marks queue vertices coordinates →
     l ≡ loans_of o marks queue vertices coordinates

@@ -14,7 +14,7 @@ use sew_three::three::three_unsew_on;
 use sew_two::two::{two_sew_on, two_unsew_on};
 
 // The sews and unsews. An unsew takes one dart, which is given twice.
-#[derive(Clone, Copy)]
+#[derive(Clone, Copy, Debug, PartialEq, Eq)]
 pub enum Operation {
     OneSew,
     OneUnsew,
@@ -34,11 +34,8 @@ pub fn loans_of(
     ensures { result ≡ loans_of operation marks queue vertices coordinates }
 {
     match operation {
-        Operation::OneSew => scratch(marks, queue),
-        Operation::OneUnsew => scratch(marks, queue),
         Operation::TwoSew => vertex_loans(marks, queue, vertices, coordinates),
-        Operation::TwoUnsew => scratch(marks, queue),
-        Operation::ThreeUnsew => scratch(marks, queue),
+        _ => scratch(marks, queue),
     }
 }
 

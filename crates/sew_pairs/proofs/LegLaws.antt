@@ -1,5 +1,5 @@
 -- The legs of a 3-unsew, turn by turn, with the values as the code has them.
---   over_null, over_at       whether a leg is over
+--   over_at                  whether a leg is over
 --   leg_stops                where it is over it has no pair
 --   one_pair, one_on, leg_next   else its first pair is that of l and r, and the rest is the leg from the next pair on
 --   pairs_few                a leg has no more pairs than it may have
@@ -12,7 +12,7 @@ use mathlib.Core.Path.{refl, sym, ap, ◌∙◌}
 use mathlib.Core.Bool.{true≢false}
 use mathlib.Core.List.{append_assoc}
 use lib.ListN.{length-append}
-use borrow.Author.Tests.{eq-eqb, ne_eqb}
+use borrow.Author.Tests.{ne_eqb}
 use Rattle.map_betas.specs.Betas.{beta}
 use Rattle.sew_plan.specs.declared.Entry.{Entry}
 use Rattle.sew_ground.specs.Entries.{written_all}
@@ -20,10 +20,6 @@ use Rattle.sew_ground.proofs.EntryLaws.{written_both}
 use Rattle.sew_pairs.specs.Pairs.{Pairs, pair_entries, entries_of, leg_over, pairs_from, end_from, leg_pairs, leg_end, Over}
 
 module _ (l stop : ℕ) where
-  pub over_null : l ≡ 0 → true ≡ leg_over l stop
-  unfolding leg_over
-  over_null e = simp (eq-eqb l 0 e)
-
   pub over_at : l ≢ 0 → eqb l stop ≡ leg_over l stop
   unfolding leg_over
   over_at n = simp (ne_eqb l 0 n)

@@ -1,57 +1,43 @@
 -- The splits of one pair, from what the code has read.
 --   far_is, far_below     the far end of a dart, which is a dart
---   item_of               a split of two cells, from their identifiers
---   open_none, open_some  the split at the near end of l: not asked for, or asked for
+--   open_none             the split at the near end of l, where it is not asked for
 --   pair_is               the three together
 --   pair_few              they are three at most
 -- Assumes nothing.
-use Rattle.std.specs.Prelude.{◌≡◌, ℕ, ◌<◌, ◌≤◌, Bool, true, eqb, ◌≢◌, List, [], ◌++◌, length}
+use Rattle.std.specs.Prelude.{max, ◌≡◌, ℕ, ◌<◌, ◌≤◌, true, eqb, ◌≢◌, List, [], ◌∷◌, ◌++◌, length, Option}
 use native.Mathlib.Omega.{arith}
-use mathlib.Core.Path.{sym, ap, ◌∙◌}
+use mathlib.Core.Path.{ap, ◌∙◌}
 use lib.ListN.{length-append}
-use borrow.Author.Tests.{eq-eqb, ne_eqb}
-use Rattle.map_betas.specs.Betas.{beta, darts, larger}
+use borrow.Author.Tests.{ne_eqb}
+use Rattle.map_betas.specs.Betas.{beta, darts}
 use Rattle.map_betas.specs.Maps.{WellFormed}
 use Rattle.cell_steps.specs.declared.cells.Cell.{Cell}
-use Rattle.cell_steps.specs.declared.cells.Class.{Class}
 use Rattle.cell_steps.specs.declared.cells.Class.TheVariants.{Vertex, Edge}
 use Rattle.cell_steps.specs.Idents.{cell_of}
 use Rattle.sew_plan.specs.declared.Kind.TheVariants.{Split}
 use Rattle.sew_plan.specs.declared.Entry.{Entry}
-use Rattle.sew_ground.specs.declared.items.Item.{Item}
 use Rattle.sew_ground.specs.Entries.{entries_if, listed, all_of}
 use Rattle.sew_ground.proofs.EntryLaws.{none_asked, if_few, three_items}
-use Rattle.sew_ground.proofs.SideLaws.{larger_below}
 use Rattle.sew_pairs.specs.Pairs.{three_far, pair_entries}
 
 module _ (rows : List ℕ) (d : ℕ) where
-  pub far_is : (b₁ b₂ far : ℕ) → b₁ ≡ beta rows 1 d → b₂ ≡ beta rows 2 d → far ≡ larger b₁ b₂ → far ≡ three_far rows d
+  pub far_is : (b₁ b₂ far : ℕ) → b₁ ≡ beta rows 1 d → b₂ ≡ beta rows 2 d → far ≡ max b₁ b₂ → far ≡ three_far rows d
   unfolding three_far
-  far_is b₁ b₂ far p₁ p₂ q = q ∙ ap (λ (x : ℕ). larger x b₂) p₁ ∙ ap (λ (x : ℕ). larger (beta rows 1 d) x) p₂
+  far_is b₁ b₂ far p₁ p₂ q = q ∙ ap (λ (x : ℕ). max x b₂) p₁ ∙ ap (λ (x : ℕ). max (beta rows 1 d) x) p₂
 
   pub far_below : WellFormed rows → three_far rows d < darts rows
   unfolding three_far
-  far_below w = larger_below (darts rows) (beta rows 1 d) (beta rows 2 d) (w.below 1 d) (w.below 2 d)
-
-pub item_of : (k : Class) (a b x y : Cell) (es : List Entry) → a ≡ x → b ≡ y → es ≡ entries_if true k Split a b → es ≡ entries_if true k Split x y
-item_of k a b x y es p q e = e ∙ ap (λ (z : Cell). entries_if true k Split z b) p ∙ ap (λ (z : Cell). entries_if true k Split x z) q
+  far_below w = omega (arith, w.below 1 d, w.below 2 d)
 
 module _ (rows : List ℕ) (l b₀ : ℕ) (e : b₀ ≡ beta rows 0 l) where
   pub open_none : (x y : Cell) → b₀ ≢ 0 → [] ≡ entries_if (eqb (beta rows 0 l) 0) Vertex Split x y
   open_none x y n = none_asked (eqb (beta rows 0 l) 0) Vertex Split x y (ne_eqb (beta rows 0 l) 0 (λ z. n (e ∙ z)))
 
-  pub open_some : (r far : ℕ) (es : List Entry) → b₀ ≡ 0 → far ≡ three_far rows r →
-      es ≡ entries_if true Vertex Split (cell_of Vertex rows l) (cell_of Vertex rows far) →
-      es ≡ entries_if (eqb (beta rows 0 l) 0) Vertex Split (cell_of Vertex rows l) (cell_of Vertex rows (three_far rows r))
-  open_some r far es z f q =
-      q ∙ ap (λ (x : ℕ). entries_if true Vertex Split (cell_of Vertex rows l) (cell_of Vertex rows x)) f
-      ∙ ap (λ (b : Bool). entries_if b Vertex Split (cell_of Vertex rows l) (cell_of Vertex rows (three_far rows r))) (sym (eq-eqb (beta rows 0 l) 0 (sym e ∙ z)))
-
-pub pair_is : (rows : List ℕ) (l r far : ℕ) (a b d : Item) →
+pub pair_is : (rows : List ℕ) (l r far : ℕ) (a b d : Option Entry) →
     listed a ≡ entries_if true Edge Split (cell_of Edge rows l) (cell_of Edge rows r) → far ≡ three_far rows l →
     listed b ≡ entries_if true Vertex Split (cell_of Vertex rows far) (cell_of Vertex rows r) →
     listed d ≡ entries_if (eqb (beta rows 0 l) 0) Vertex Split (cell_of Vertex rows l) (cell_of Vertex rows (three_far rows r)) →
-    all_of (record { first = a; second = b; third = d }) ≡ pair_entries rows l r
+    all_of (a ∷ b ∷ d ∷ []) ≡ pair_entries rows l r
 unfolding pair_entries
 pair_is rows l r far a b d p f q s =
     three_items a b d _ _ _ p (q ∙ ap (λ (x : ℕ). entries_if true Vertex Split (cell_of Vertex rows x) (cell_of Vertex rows r)) f) s

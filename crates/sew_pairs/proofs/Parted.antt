@@ -3,7 +3,7 @@
 --   at_pairs, of_pairs   the pairs of a leg that ends after m: the t-th for each t below m, and no others
 --   parted             a pair is listed exactly where its left dart is of the chain of ld and its right dart was that dart's image
 -- Assumes nothing.
-use Rattle.std.specs.Prelude.{◌≡◌, ℕ, zero, suc, ◌<◌, ◌≤◌, true, false, eqb, ◌≢◌, ◌↔◌, List, [], ◌∷◌, ◌++◌, length}
+use Rattle.std.specs.Prelude.{◌≡◌, ℕ, zero, suc, ◌<◌, ◌≤◌, true, false, eqb, ◌≢◌, ◌↔◌, List, [], ◌∷◌, ◌++◌, length, is_ok}
 use native.Mathlib.Omega.{arith}
 use native.Mathlib.Decide.{ℕ_discrete}
 use mathlib.Core.Path.{refl, sym, ap, ◌∙◌, subst}
@@ -12,7 +12,6 @@ use mathlib.Core.List.Memᴰ
 use mathlib.Core.List.{Memᴰ}
 use borrow.Author.Tests.{eq-eqb, ne_eqb}
 use Rattle.map_betas.specs.Betas.{beta, darts}
-use Rattle.map_betas.specs.Answers.{is_done}
 use Rattle.map_betas.specs.Maps.{WellFormed}
 use Rattle.map_betas.specs.Chains.{far, Chain, first}
 use Rattle.map_betas.proofs.Chains.{Ends, far_zero, far_suc, far_last, far_alike, chain_far, chain_round, chain_line}
@@ -66,7 +65,7 @@ module _ (rows : List ℕ) (i j stop : ℕ) where
 
 -- ---- the pairs of a 3-unsew
 
-module _ (rows : List ℕ) (ld : ℕ) (s : WellFormed rows) (nl : ld ≢ 0) (hl : ld < darts rows) (t : is_done (three_unlink_on rows ld).answer ≡ true) where
+module _ (rows : List ℕ) (ld : ℕ) (s : WellFormed rows) (nl : ld ≢ 0) (hl : ld < darts rows) (t : is_ok (three_unlink_on rows ld).answer ≡ true) where
   abbrev cut : List ℕ
   cut = (three_unlink_on rows ld).rows
 

@@ -5,16 +5,15 @@
 --   matches     what a 3-unlink has parted faces each other: the images before it are a matching
 --   relinks     a 3-link of ld and its former image, after a 3-unlink that is done, gives back every row
 -- Assumes nothing.
-use Rattle.std.specs.Prelude.{◌≡◌, ℕ, ◌+◌, ◌*◌, ◌/◌, ◌%◌, ◌<◌, true, ◌≢◌, List, length, get_or}
+use Rattle.std.specs.Prelude.{◌≡◌, ℕ, ◌+◌, ◌*◌, ◌/◌, ◌%◌, ◌<◌, true, ◌≢◌, List, length, get_or, is_ok}
 use native.Mathlib.Omega.{arith}
 use native.Mathlib.Decide.{ℕ_discrete, dec_lt}
 use mathlib.Core.Path.{refl, sym, ap, ◌∙◌}
 use mathlib.Core.Logic.{by_cases}
 use mathlib.Core.Bool.{true≢false}
 use lib.Seq.{ext_get_or}
-use Rattle.map_betas.specs.declared.error.Answer.TheVariants.{Done}
 use Rattle.map_betas.specs.Betas.{beta, darts}
-use Rattle.map_betas.specs.Answers.{Out, out, pass, is_done}
+use Rattle.map_betas.specs.Answers.{Out, out, nothing, done}
 use Rattle.map_betas.specs.Maps.{WellFormed}
 use Rattle.map_betas.proofs.Chains.{chain_alike}
 use Rattle.link_walk.specs.Three.{three_link_on, three_unlink_on}
@@ -31,9 +30,9 @@ images xs ys e h =
     let q : k ≡ 4 * (k / 4) + k % 4 = omega arith in
     ap (λ (x : ℕ). get_or xs x 0) q ∙ h (k % 4) (k / 4) (omega arith) ∙ ap (λ (x : ℕ). get_or ys x 0) (sym q))
 
-module _ (rows : List ℕ) (ld : ℕ) (s : WellFormed rows) (nl : ld ≢ 0) (hl : ld < darts rows) (t : is_done (three_unlink_on rows ld).answer ≡ true) where
+module _ (rows : List ℕ) (ld : ℕ) (s : WellFormed rows) (nl : ld ≢ 0) (hl : ld < darts rows) (t : is_ok (three_unlink_on rows ld).answer ≡ true) where
   pub had_image : beta rows 3 ld ≢ 0
-  had_image z = true≢false (sym t ∙ ap (λ (o : Out). is_done o.answer) (free rows ld s hl nl z))
+  had_image z = true≢false (sym t ∙ ap (λ (o : Out). is_ok o.answer) (free rows ld s hl nl z))
 
   abbrev cut : List ℕ
   cut = (three_unlink_on rows ld).rows
@@ -69,7 +68,7 @@ module _ (rows : List ℕ) (ld : ℕ) (s : WellFormed rows) (nl : ld ≢ 0) (hl 
         ends = λ d c z. low 0 (beta rows 3 d) (omega arith) ∙ f.ends d (to c) (sym (low 1 d (omega arith)) ∙ z);
       }
 
-  pub answers : (three_unlink_on rows ld).answer ≡ Done (beta rows 3 ld) 0
+  pub answers : (three_unlink_on rows ld).answer ≡ done (beta rows 3 ld) 0
   answers = (unlinks_iff rows ld s hl nl had_image).0 did.0
 
   pub matches : Matching cut ld (beta rows 3 ld) (λ d. beta rows 3 d)
@@ -83,7 +82,7 @@ module _ (rows : List ℕ) (ld : ℕ) (s : WellFormed rows) (nl : ld ≢ 0) (hl 
         free = λ d c. (did.1.left d (to c), did.1.right d (to c));
       }
 
-  pub relinks : three_link_on (three_unlink_on rows ld).rows ld (beta rows 3 ld) ≡ out pass rows
+  pub relinks : three_link_on (three_unlink_on rows ld).rows ld (beta rows 3 ld) ≡ out nothing rows
   relinks =
       let rd : ℕ = beta rows 3 ld in
       let n : darts cut ≡ darts rows = ap (λ (k : ℕ). k / 4) long in
@@ -94,7 +93,7 @@ module _ (rows : List ℕ) (ld : ℕ) (s : WellFormed rows) (nl : ld ≢ 0) (hl 
       let m : Linked cut ld (λ x. beta rows 3 x) (three_link_on cut ld (beta rows 3 ld)).rows =
       links cut ld (beta rows 3 ld) w hl' nl hr' had_image (λ x. beta rows 3 x) matches in
       let e : (three_link_on cut ld (beta rows 3 ld)).rows ≡ rows = same m ((link_kept cut ld (beta rows 3 ld) w hl' nl hr' had_image).1 ∙ long) in
-      let a : (three_link_on cut ld (beta rows 3 ld)).answer ≡ pass = says cut ld (beta rows 3 ld) w hl' nl hr' had_image d in
+      let a : (three_link_on cut ld (beta rows 3 ld)).answer ≡ nothing = says cut ld (beta rows 3 ld) w hl' nl hr' had_image d in
       λ i. record { answer = a i; rows = e i }
     where
       same : {ys : List ℕ} → Linked cut ld (λ x. beta rows 3 x) ys → length ys ≡ length rows → ys ≡ rows

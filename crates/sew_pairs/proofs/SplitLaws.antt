@@ -10,7 +10,6 @@ use native.Mathlib.Omega.{arith}
 use mathlib.Core.Path.{refl, sym, ap, ◌∙◌}
 use lib.ListN.{length-append}
 use borrow.Author.Tests.{eqb-true}
-use Rattle.map_betas.specs.declared.error.Answer.TheVariants.{Done}
 use Rattle.map_betas.specs.Betas.{beta}
 use Rattle.cell_steps.specs.declared.cells.Cell.{Cell}
 use Rattle.cell_steps.specs.declared.cells.Class.TheVariants.{Face}
@@ -23,6 +22,7 @@ use Rattle.sew_ground.proofs.SewnLaws.{settles_done}
 use Rattle.sew_pairs.specs.Pairs.{Pairs, pair_entries, entries_of, leg_pairs}
 use Rattle.sew_pairs.specs.Three.{first_pairs, first_end, back_pairs, pairs_of, splits_of}
 use Rattle.sew_pairs.proofs.LegLaws.{entries_append, entries_turn}
+use Rattle.map_betas.specs.Answers.{done}
 
 -- the pairs of the two legs
 module _ (rows : List ℕ) (ld rd : ℕ) where
@@ -99,7 +99,7 @@ module _ (rows : List ℕ) (ld rd : ℕ) (left right : Cell) where
 -- the entries fit, and are written
 pub written_done : (plan plan₁ : List ℕ) (d n k : ℕ) (es fs : List Entry) → es ≡ fs → n ≡ length es → plan₁ ≡ written_all plan 0 es → length fs ≤ k →
     k ≤ room_of plan →
-    settles (Done d n) plan₁ ≡ settled plan d fs
+    settles (done d n) plan₁ ≡ settled plan d fs
 written_done plan plan₁ d n k es fs e en p h g =
     let m : n ≡ length fs = en ∙ ap (λ (x : List Entry). length x) e in
     settles_done plan d fs n m plan₁ (omega (arith, m, h, g)) (p ∙ ap (written_all plan 0) e ∙ written_put plan fs)

@@ -8,12 +8,11 @@
 --   call_three_unsew_kept      so the call leaves a map a map, whatever its loans and its dart
 --   call_three_unsew_refused   a refused call leaves rows and plan as they were
 -- Assumes nothing.
-use Rattle.std.specs.Prelude.{◌≡◌, ℕ, ◌/◌, ◌<◌, Bool, true, false, ◌≢◌, List, length}
+use Rattle.std.specs.Prelude.{◌≡◌, ℕ, ◌/◌, ◌<◌, Bool, true, false, ◌≢◌, List, length, is_ok}
 use native.Mathlib.Omega.{arith}
 use mathlib.Core.Path.{sym, ap, ◌∙◌}
-use Rattle.map_betas.specs.declared.error.Answer.{Answer}
 use Rattle.map_betas.specs.Betas.{beta, darts}
-use Rattle.map_betas.specs.Answers.{Out, out, is_done}
+use Rattle.map_betas.specs.Answers.{Out, out, Answer}
 use Rattle.map_betas.specs.Guards.{Dart, scratch_of}
 use Rattle.map_betas.specs.Maps.{WellFormed, Map, Keeps, Stays}
 use Rattle.link_walk.specs.Three.{three_link_on, three_unlink_on}
@@ -37,14 +36,14 @@ module _ (rows : List ℕ) (ld : ℕ) (a : Answer) (rows₁ : List ℕ) (e : out
   is_rows : rows₁ ≡ (three_unlink_on rows ld).rows
   is_rows = ap (λ (o : Out). o.rows) e
 
-  said : (b : Bool) → is_done a ≡ b → is_done (three_unlink_on rows ld).answer ≡ b
-  said b t = ap is_done (sym is_answer) ∙ t
+  said : (b : Bool) → is_ok a ≡ b → is_ok (three_unlink_on rows ld).answer ≡ b
+  said b t = ap is_ok (sym is_answer) ∙ t
 
-  pub three_refused : (plan : List ℕ) → is_done a ≡ false → leaves a rows₁ plan ≡ sewn rows plan (three_unsew_on rows ld)
+  pub three_refused : (plan : List ℕ) → is_ok a ≡ false → leaves a rows₁ plan ≡ sewn rows plan (three_unsew_on rows ld)
   unfolding three_unsew_on
   three_refused plan t = ends_refused rows plan _ a rows₁ is_answer (is_rows ∙ three_on_unmoved rows ld (said false t)) t
 
-  module _ (t : is_done a ≡ true) (rd : ℕ) (er : rd ≡ dart_of a) where
+  module _ (t : is_ok a ≡ true) (rd : ℕ) (er : rd ≡ dart_of a) where
     pub three_dart : rd ≡ beta rows 3 ld
     three_dart = er ∙ ap dart_of (is_answer ∙ answers rows ld w real d.below (said true t))
 
@@ -65,7 +64,7 @@ module _ (rows : List ℕ) (ld : ℕ) (a : Answer) (rows₁ : List ℕ) (e : out
       entries : three_entries rows₁ ld rd ≡ three_entries (three_unlink_on rows ld).rows ld (dart_of (three_unlink_on rows ld).answer)
       entries = ap (λ (x : List ℕ). three_entries x ld rd) is_rows ∙ ap (three_entries (three_unlink_on rows ld).rows ld) dart
 
-      pub three_tight : (u : Answer) (rows₂ : List ℕ) → out u rows₂ ≡ three_link_on rows₁ ld rd → is_done b ≡ false →
+      pub three_tight : (u : Answer) (rows₂ : List ℕ) → out u rows₂ ≡ three_link_on rows₁ ld rd → is_ok b ≡ false →
           leaves b rows₂ plan₁ ≡ sewn rows plan (three_unsew_on rows ld)
       unfolding three_unsew_on
       three_tight u rows₂ f g =
@@ -74,7 +73,7 @@ module _ (rows : List ℕ) (ld : ℕ) (a : Answer) (rows₁ : List ℕ) (e : out
           ∙ ap (λ (x : ℕ). (three_link_on (three_unlink_on rows ld).rows ld x).rows) three_dart
           ∙ ap (λ (o : Out). o.rows) (relinks rows ld w real d.below (said true t))) g
 
-      pub three_done : is_done b ≡ true → leaves b rows₁ plan₁ ≡ sewn rows plan (three_unsew_on rows ld)
+      pub three_done : is_ok b ≡ true → leaves b rows₁ plan₁ ≡ sewn rows plan (three_unsew_on rows ld)
       unfolding three_unsew_on
       three_done g = ends_done rows plan _ (said true t) rd (three_entries rows₁ ld rd) dart entries b plan₁ s rows₁ is_rows g
 
@@ -89,7 +88,7 @@ module _ (rows marks queue flags plan : List ℕ) (ld : ℕ) where
   call_three_unsew_kept m =
       sew_kept rows flags marks queue plan (scratch_of (length marks) (length queue)) ld ld (three_unsew_on rows ld) m (λ d e. three_kept rows ld m.formed d)
 
-  pub call_three_unsew_refused : is_done (three_unsew rows marks queue flags plan ld).answer ≡ false →
+  pub call_three_unsew_refused : is_ok (three_unsew rows marks queue flags plan ld).answer ≡ false →
       ((three_unsew rows marks queue flags plan ld).loans.0 ≡ rows) × ((three_unsew rows marks queue flags plan ld).loans.3 ≡ plan)
   unfolding three_unsew
   call_three_unsew_refused = sew_refused (sew_guard rows marks queue flags ld ld) rows marks queue plan (three_unsew_on rows ld)

@@ -4,12 +4,10 @@
 --   zeros3, zeros4, zeros6, sevens   loans: three, four, six zeros; six numbers that are not 0
 --   six                       the numbers of an entry
 --   lines                     the table
-use Rattle.std.specs.Prelude.{ℕ, List, [], ◌∷◌, ◌++◌}
-use Rattle.map_betas.specs.declared.error.Answer.{Answer}
-use Rattle.map_betas.specs.declared.error.Answer.TheVariants.{Done, Refused}
+use Rattle.std.specs.Prelude.{ℕ, List, [], ◌∷◌, ◌++◌, Err}
 use Rattle.map_betas.specs.declared.error.Refusal.TheVariants.{AsymmetricalFaces, PlanRoom}
 use Rattle.link_glue.specs.Examples.{Line, line, row, free, loops, loops_linked, opens, opens_linked, pair_linked, in_use}
-use Rattle.map_betas.specs.Answers.{Outcome, outcome}
+use Rattle.map_betas.specs.Answers.{Outcome, outcome, Answer, done}
 use Rattle.sew_ground.specs.Calls.{SewLoans}
 use Rattle.sew_pairs.specs.Calls.{three_unsew}
 
@@ -48,23 +46,23 @@ unfoldable pub lines : List (Line (Outcome SewLoans))
 lines =
     -- 13:1,2,1; 12:1,2,1; 11:0,2,0; 11:1,0,0: a null end has the size 0
     line (unsew two_linked zeros3 zeros3 (sevens ++ sevens ++ sevens ++ sevens) 1)
-    (leaving (Done 2 4) (free ++ free ++ free) zeros3 zeros3 (six 13 1 2 1 1 1 ++ six 12 1 2 1 1 1 ++ six 11 0 2 0 0 1 ++ six 11 1 0 0 1 0))
+    (leaving (done 2 4) (free ++ free ++ free) zeros3 zeros3 (six 13 1 2 1 1 1 ++ six 12 1 2 1 1 1 ++ six 11 0 2 0 0 1 ++ six 11 1 0 0 1 0))
     -- room for three of four entries, and five numbers more: 11, and the darts stay linked
     ∷ line (unsew two_linked zeros3 zeros3 (sevens ++ sevens ++ sevens ++ (7 ∷ row 7 7 7 7)) 1)
-    (leaving (Refused (PlanRoom 4)) two_linked zeros3 zeros3 (sevens ++ sevens ++ sevens ++ (7 ∷ row 7 7 7 7)))
+    (leaving (Err (PlanRoom 4)) two_linked zeros3 zeros3 (sevens ++ sevens ++ sevens ++ (7 ∷ row 7 7 7 7)))
     -- the least over the walked darts of each side: 13:2,3,2
     ∷ line (unsew part_linked zeros4 zeros4 (sevens ++ sevens ++ sevens ++ sevens) 2)
-    (leaving (Done 3 4) (free ++ row 3 0 0 0 ++ free ++ row 0 1 0 0) zeros4 zeros4
+    (leaving (done 3 4) (free ++ row 3 0 0 0 ++ free ++ row 0 1 0 0) zeros4 zeros4
     (six 13 2 3 2 1 1 ++ six 12 2 3 2 1 1 ++ six 11 0 3 0 0 1 ++ six 11 2 1 1 1 1))
     -- an open face, from its last dart: the second leg's pair comes last, and marks and queue are longer than n
     ∷ line (unsew opens_linked (1 ∷ zeros6) (5 ∷ zeros4 ++ (8 ∷ sevens)) (sevens ++ sevens ++ sevens ++ sevens ++ sevens ++ sevens) 2)
-    (leaving (Done 3 6) opens (0 ∷ zeros6) (zeros6 ++ sevens)
+    (leaving (done 3 6) opens (0 ∷ zeros6) (zeros6 ++ sevens)
     (six 13 1 3 1 2 2 ++ six 12 2 3 2 1 1 ++ six 11 0 3 0 0 1 ++ six 12 1 4 1 1 1 ++ six 11 2 4 2 1 1 ++ six 11 1 5 1 1 1))
     -- a closed face against a longer one: the second leg is not walked, and the last numbers, too few for an entry, stay
     ∷ line (unsew loops_linked (zeros4 ++ zeros4) (zeros4 ++ zeros4) (sevens ++ sevens ++ sevens ++ sevens ++ sevens ++ sevens ++ sevens ++ row 8 8 8 8) 1)
-    (leaving (Done 4 7) loops (zeros4 ++ zeros4) (zeros4 ++ zeros4)
+    (leaving (done 4 7) loops (zeros4 ++ zeros4) (zeros4 ++ zeros4)
     (six 13 1 4 1 3 3 ++ six 12 1 4 1 1 1 ++ six 11 2 4 2 1 1 ++ six 12 2 7 2 1 1 ++ six 11 3 7 3 1 1 ++ six 12 3 6 3 1 1 ++ six 11 1 6 1 1 1
     ++ row 8 8 8 8))
     -- walks read the rows as written so far
-    ∷ line (unsew pair_linked zeros3 zeros3 sevens 1) (leaving (Refused (AsymmetricalFaces 1 2)) pair_linked zeros3 zeros3 sevens)
+    ∷ line (unsew pair_linked zeros3 zeros3 sevens 1) (leaving (Err (AsymmetricalFaces 1 2)) pair_linked zeros3 zeros3 sevens)
     ∷ []

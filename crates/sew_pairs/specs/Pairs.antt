@@ -8,8 +8,8 @@
 --   leg_pairs, leg_end                the same with as many pairs as the rows have places
 --   Over rows i stop l              a leg is over before it has so many
 -- A leg goes from l and r, l on by beta i and r on by beta j, until l is null or at `stop`. No leg of a 3-unsew is cut short (`proofs/Ends.antt`).
-use Rattle.std.specs.Prelude.{◌≡◌, ℕ, zero, suc, Bool, true, cond, ◌||◌, List, [], ◌∷◌, ◌++◌, length, ◌==◌}
-use Rattle.map_betas.specs.Betas.{beta, larger}
+use Rattle.std.specs.Prelude.{max, ◌≡◌, ℕ, zero, suc, Bool, true, cond, ◌||◌, List, [], ◌∷◌, ◌++◌, length, ◌==◌}
+use Rattle.map_betas.specs.Betas.{beta}
 use Rattle.cell_steps.specs.declared.cells.Class.TheVariants.{Vertex, Edge}
 use Rattle.cell_steps.specs.Idents.{cell_of}
 use Rattle.sew_plan.specs.declared.Kind.TheVariants.{Split}
@@ -18,7 +18,7 @@ use Rattle.sew_ground.specs.Entries.{entries_if}
 
 -- the far end of a dart in a 3-unsew: by beta 1, or by beta 2 where that is the larger (scope: far end)
 unfoldable pub three_far : List ℕ → ℕ → ℕ
-three_far rows d = larger (beta rows 1 d) (beta rows 2 d)
+three_far rows d = max (beta rows 1 d) (beta rows 2 d)
 
 -- What one pair adds to the plan (scope: 3-unsew): its edges, the end of l against the start of r, and, where l begins an open chain, the other ends.
 -- A far end may be null: its name and its size are 0 then, and the split stands in the plan.

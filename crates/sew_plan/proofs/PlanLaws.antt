@@ -1,7 +1,6 @@
 -- Laws of plans, for callers that write entries one behind another. Assumes nothing.
 --
---   lesser_min      the lesser of two identifiers is their minimum
---   entry_stored    the six stores of one entry give `written`
+--   entry_stored    the numbers of one entry, put in its places, give `written`
 --   length_plan_of   a list of entries takes `width` numbers for each
 --   plan_of_append   the numbers of two lists of entries, one behind another
 --   put_none        a plan into which nothing was written is itself
@@ -9,47 +8,24 @@
 --   put_front       the written part of a plan
 --   put_rest        the rest of a plan is unchanged
 --   length_written  writing an entry for which there is room keeps the length
-use Prim.Native.Nat.{ℕ, suc, ◌+◌, ◌*◌, ◌≤◌, min}
-use native.Mathlib.Nat.{le_of_lt, min-eq_left, min-eq_right}
+use Prim.Native.Nat.{ℕ, ◌+◌, ◌*◌, ◌≤◌, ◌-◌}
 use mathlib.Core.Path.{◌≡◌, refl, sym, ap, ◌∙◌}
 use mathlib.Core.List.{List, [], ◌∷◌, ◌++◌, append_assoc}
 use native.Mathlib.Omega.{arith}
-use mathlib.Core.Logic.{⊎_elim}
-use mathlib.Core.Bool.{true, false}
-use lib.Dec.{leb}
-use lib.ListN.{length, take, drop, set, length-append, length-take, length-drop}
-use borrow.Author.Tests.{leb-true, leb-false}
-use lib.Seq.{sets-eq, take_at, drop_at, drop-drop}
-use Rattle.cell_steps.proofs.Lists.{bool}
+use lib.ListN.{length, take, drop, length-append, length-take, length-drop}
+use borrow.Rule.Slice.PartMut.{put_mid}
+use lib.Seq.{take_at, drop_at, drop-drop}
 use Rattle.sew_plan.specs.declared.Entry.{Entry}
-use Rattle.sew_plan.specs.Plan.{width, code_of, entry_words, lesser_of, written, plan_of, put_plan}
-
-pub lesser_min : (x y : ℕ) → lesser_of x y ≡ min x y
-lesser_min x y =
-    ⊎_elim
-    (λ (t : leb x y ≡ true). simp t (sym (min-eq_left (leb-true x y t))))
-    (λ (t : leb x y ≡ false). simp t (sym (min-eq_right (le_of_lt (leb-false x y t)))))
-    (bool (leb x y))
+use Rattle.sew_plan.specs.Plan.{width, entry_words, written, plan_of, put_plan}
 
 -- ---- one entry
 
-six_stores : (plan : List ℕ) (p a b c d m n : ℕ) → p + 6 ≤ length plan
-    → set (set (set (set (set (set plan p a) (p + 1) b) (p + 2) c) (p + 3) d) (p + 4) m) (p + 5) n
-    ≡ take p plan ++ ((a ∷ b ∷ c ∷ d ∷ m ∷ n ∷ []) ++ drop (p + 6) plan)
-six_stores plan p a b c d m n h =
-    let words : List ℕ = a ∷ b ∷ c ∷ d ∷ m ∷ n ∷ [] in
-    let e1 : p + 1 ≡ suc p = omega arith in
-    let e2 : p + 2 ≡ suc (suc p) = omega arith in
-    let e3 : p + 3 ≡ suc (suc (suc p)) = omega arith in
-    let e4 : p + 4 ≡ suc (suc (suc (suc p))) = omega arith in
-    let e5 : p + 5 ≡ suc (suc (suc (suc (suc p)))) = omega arith in
-    rw (e1, e2, e3, e4, e5) (sets-eq words plan p h ∙ append_assoc (take p plan) words (drop (p + 6) plan))
-
-pub entry_stored : (plan : List ℕ) (k : ℕ) (e : Entry) (n : ℕ) → n ≡ code_of e.class e.kind → width * k + width ≤ length plan
-    → set (set (set (set (set (set plan (width * k) n) (width * k + 1) e.a) (width * k + 2) e.b) (width * k + 3) e.c) (width * k + 4) e.left)
-    (width * k + 5) e.right ≡ written plan k e
+pub entry_stored : (plan : List ℕ) (k : ℕ) (e : Entry) (words : List ℕ) → words ≡ entry_words e
+    → put_mid (width * k) (width * k + width - width * k) plan words ≡ written plan k e
 unfolding written
-entry_stored plan k e n en h = six_stores plan (width * k) n e.a e.b e.c e.left e.right h ∙ rw en
+entry_stored plan k e words h =
+    let n : width * k + width - width * k ≡ width = omega arith in
+    rw (n, h, drop-drop width (width * k) plan) refl
 
 -- ---- lists of entries
 

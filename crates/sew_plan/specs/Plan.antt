@@ -3,14 +3,14 @@
 --   width       how many numbers one entry takes
 --   code_of      the number that stands for a class and a kind
 --   entry_words  the numbers of one entry
---   lesser_of    the lesser of two identifiers
 --   merge_of     the entry of a merge of two cells
 --   split_of     the entry of a split into two cells
+--   entry_of c k a b   the merge or the split of the cells a and b, each with its name and its size
 --   written     a plan after its entry number k was written
 --   room_of      how many whole entries a plan has room for
 --   plan_of      the numbers of a list of entries, one behind another
 --   put_plan     a plan after a list of entries was written from its start
-use Rattle.std.specs.Prelude.{ℕ, ◌+◌, ◌*◌, ◌/◌, cond, List, [], ◌∷◌, ◌++◌, leb, length, take, drop}
+use Rattle.std.specs.Prelude.{ℕ, ◌+◌, ◌*◌, ◌/◌, min, List, [], ◌∷◌, ◌++◌, length, take, drop}
 use Rattle.cell_steps.specs.declared.cells.Cell.{Cell}
 use Rattle.cell_steps.specs.declared.cells.Class.{Class}
 use Rattle.cell_steps.specs.declared.cells.Class.TheVariants.{Vertex, Edge, Face, Volume}
@@ -38,17 +38,14 @@ code_of Volume Split = 14
 abbrev pub entry_words : Entry → List ℕ
 entry_words e = code_of e.class e.kind ∷ e.a ∷ e.b ∷ e.c ∷ e.left ∷ e.right ∷ []
 
--- the identifier that stays where two become one, and the one that two come from
-abbrev pub lesser_of : ℕ → ℕ → ℕ
-lesser_of left right = cond (leb left right) left right
-
--- a merge says first what stays, then what comes in from either side, and how many darts each side has
+-- The lesser identifier is the one that stays where two become one, and the one that two come from.
+-- A merge says first what stays, then what comes in from either side, and how many darts each side has
 unfoldable pub merge_of : Class → Cell → Cell → Entry
 merge_of cells left right =
     record {
       class = cells;
       kind = Merge;
-      a = lesser_of left.least right.least;
+      a = min left.least right.least;
       b = left.least;
       c = right.least;
       left = left.count;
@@ -63,10 +60,14 @@ split_of cells left right =
       kind = Split;
       a = left.least;
       b = right.least;
-      c = lesser_of left.least right.least;
+      c = min left.least right.least;
       left = left.count;
       right = right.count;
     }
+
+abbrev pub entry_of : Class → Kind → Cell → Cell → Entry
+entry_of cells Merge left right = merge_of cells left right
+entry_of cells Split left right = split_of cells left right
 
 -- entry number k takes the places from width * k on, and no other place changes
 unfoldable pub written : List ℕ → ℕ → Entry → List ℕ

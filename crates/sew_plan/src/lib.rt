@@ -2,7 +2,7 @@
 #![tactic(auto)]
 
 ghost use Rattle.std.specs.Prelude.{◌≡◌, ◌+◌, ◌*◌, ◌≤◌, length};
-ghost use Rattle.sew_plan.specs.Plan.{width, code_of, lesser_of, merge_of, split_of, written, room_of};
+ghost use Rattle.sew_plan.specs.Plan.{width, code_of, entry_of, entry_words, written, room_of};
 
 use cell_steps::cells::{Cell, Class};
 
@@ -10,7 +10,7 @@ use cell_steps::cells::{Cell, Class};
 pub const WIDTH: usize = 6;
 
 // What becomes of them.
-#[derive(Clone, Copy)]
+#[derive(Clone, Copy, Debug, PartialEq, Eq)]
 pub enum Kind {
     Merge,
     Split,
@@ -29,40 +29,21 @@ pub struct Entry {
     pub right: u32,
 }
 
-// The lesser of two identifiers.
-pub fn lesser(left: u32, right: u32) -> u32
-    ensures { result ≡ lesser_of left right }
+// The merge of two cells into the one that keeps the lesser identifier, or the split of that one into the two.
+pub fn entry_of(class: Class, kind: Kind, left: Cell, right: Cell) -> Entry
+    ensures { result ≡ entry_of class kind left right }
 {
-    if left <= right { left } else { right }
-}
-
-// The merge of two cells into the one that keeps the lesser identifier.
-pub fn merge(class: Class, left: Cell, right: Cell) -> Entry
-    ensures { result ≡ merge_of class left right }
-{
-    let out = lesser(left.least, right.least);
+    let lesser = left.least.min(right.least);
+    let (a, b, c) = match kind {
+        Kind::Merge => (lesser, left.least, right.least),
+        Kind::Split => (left.least, right.least, lesser),
+    };
     Entry {
         class,
-        kind: Kind::Merge,
-        a: out,
-        b: left.least,
-        c: right.least,
-        left: left.count,
-        right: right.count,
-    }
-}
-
-// The split of the cell with the lesser identifier into two.
-pub fn split(class: Class, left: Cell, right: Cell) -> Entry
-    ensures { result ≡ split_of class left right }
-{
-    let from = lesser(left.least, right.least);
-    Entry {
-        class,
-        kind: Kind::Split,
-        a: left.least,
-        b: right.least,
-        c: from,
+        kind,
+        a,
+        b,
+        c,
         left: left.count,
         right: right.count,
     }
@@ -72,25 +53,24 @@ pub fn split(class: Class, left: Cell, right: Cell) -> Entry
 pub fn code(e: Entry) -> u32
     ensures { result ≡ code_of e.class e.kind }
 {
-    let class = e.class;
-    let kind = e.kind;
-    match class {
-        Class::Vertex => match kind {
-            Kind::Merge => 1,
-            Kind::Split => 11,
-        },
-        Class::Edge => match kind {
-            Kind::Merge => 2,
-            Kind::Split => 12,
-        },
-        Class::Face => match kind {
-            Kind::Merge => 3,
-            Kind::Split => 13,
-        },
-        Class::Volume => match kind {
-            Kind::Merge => 4,
-            Kind::Split => 14,
-        },
+    match (e.class, e.kind) {
+        (Class::Vertex, Kind::Merge) => 1,
+        (Class::Edge, Kind::Merge) => 2,
+        (Class::Face, Kind::Merge) => 3,
+        (Class::Volume, Kind::Merge) => 4,
+        (Class::Vertex, Kind::Split) => 11,
+        (Class::Edge, Kind::Split) => 12,
+        (Class::Face, Kind::Split) => 13,
+        (Class::Volume, Kind::Split) => 14,
+    }
+}
+
+// The numbers of an entry, as they stand in the plan.
+impl From<Entry> for [u32; WIDTH] {
+    ghost from_gives = { λ e words. words ≡ entry_words e };
+
+    fn from(e: Entry) -> [u32; WIDTH] {
+        [code(e), e.a, e.b, e.c, e.left, e.right]
     }
 }
 
@@ -107,10 +87,6 @@ pub fn write_entry(plan: &mut [u32], at: usize, e: Entry)
     ensures { plan.new ≡ written plan.old at e }
 {
     let p = WIDTH * at;
-    plan[p] = code(e);
-    plan[p + 1] = e.a;
-    plan[p + 2] = e.b;
-    plan[p + 3] = e.c;
-    plan[p + 4] = e.left;
-    plan[p + 5] = e.right;
+    let words = <[u32; WIDTH]>::from(e);
+    plan[p..p + WIDTH].copy_from_slice(&words);
 }

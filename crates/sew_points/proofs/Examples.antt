@@ -7,7 +7,7 @@ use mathlib.Core.Bool.{true, false}
 use mathlib.Core.List.{List, [], ◌∷◌, ◌++◌}
 use lib.IntN.{pos}
 use lib.Ieee.{Float, fin, inf, nan, add, sub, mul, le}
-use Rattle.sew_points.specs.declared.Slot.TheVariants.{At}
+use Rattle.std.specs.Prelude.{Some}
 use Rattle.sew_points.specs.Geometry.{minus_of, dot_of, plus_zero, point, slot_at, slots_refuse, bad_geometry}
 
 -- dart 0 has no vertex, darts 1 to 4 have one
@@ -49,12 +49,12 @@ unfolding bad_geometry slot_at slots_refuse
 undefined = refl
 
 -- any mark but 0 says that the slot is defined
-pub any_mark : slot_at (0 ∷ 255 ∷ []) (origin ++ east) 1 ≡ At one plus_zero plus_zero
+pub any_mark : slot_at (0 ∷ 255 ∷ []) (origin ++ east) 1 ≡ Some (point one plus_zero plus_zero)
 unfolding slot_at
 any_mark = refl
 
 -- slot 0 is read like any other
-pub slot_zero : slot_at (1 ∷ []) east 0 ≡ At one plus_zero plus_zero
+pub slot_zero : slot_at (1 ∷ []) east 0 ≡ Some (point one plus_zero plus_zero)
 unfolding slot_at
 slot_zero = refl
 

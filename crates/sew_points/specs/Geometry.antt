@@ -9,13 +9,11 @@
 --   slot_at       what the vertex slot of a dart reads as
 --   slots_refuse  the test on four slots
 --   bad_geometry  the test on the slots at four vertex identifiers, in the order ld, m2, m1, rd
-use Rattle.std.specs.Prelude.{ℕ, ◌+◌, ◌*◌, ◌<◌, Bool, false, cond, List, eqb, pos, length, get_or, Float}
+use Rattle.std.specs.Prelude.{ℕ, ◌+◌, ◌*◌, ◌<◌, Bool, false, cond, List, eqb, pos, length, get_or, Float, Option, Some, None}
 use Rattle.std.specs.Float.{nan, fin, binary64}
 use Rattle.std.specs.Float.Ieee.{add, sub, mul, le}
 use Rattle.sew_points.specs.declared.Point.{Point}
 use Rattle.sew_points.specs.declared.Vector.{Vector}
-use Rattle.sew_points.specs.declared.Slot.{Slot}
-use Rattle.sew_points.specs.declared.Slot.TheVariants.{NoVertex, At}
 
 -- the vector from b to a: coordinate by coordinate, each difference rounded
 abbrev pub minus_of : Point → Point → Vector
@@ -42,18 +40,17 @@ abbrev pub Lent : List ℕ → List Float → ℕ → Type 0
 Lent marks coords d = (d < length marks) × (3 * d + 2 < length coords)
 
 -- slot d of the vertices: a point, or none where its mark is 0 (scope: vertices)
-unfoldable pub slot_at : List ℕ → List Float → ℕ → Slot
+unfoldable pub slot_at : List ℕ → List Float → ℕ → Option Point
 slot_at marks coords d =
-    cond (eqb (get_or marks d 0) 0) NoVertex (At (get_or coords (3 * d) nan) (get_or coords (3 * d + 1) nan) (get_or coords (3 * d + 2) nan))
+    cond (eqb (get_or marks d 0) 0) None (Some (point (get_or coords (3 * d) nan) (get_or coords (3 * d + 1) nan) (get_or coords (3 * d + 2) nan)))
 
 -- four slots refuse only where each holds a point
-unfoldable pub slots_refuse : Slot → Slot → Slot → Slot → Bool
-slots_refuse NoVertex m2 m1 r = false
-slots_refuse (At lx ly lz) NoVertex m1 r = false
-slots_refuse (At lx ly lz) (At m2x m2y m2z) NoVertex r = false
-slots_refuse (At lx ly lz) (At m2x m2y m2z) (At m1x m1y m1z) NoVertex = false
-slots_refuse (At lx ly lz) (At m2x m2y m2z) (At m1x m1y m1z) (At rx ry rz) =
-    same_way (point lx ly lz) (point m2x m2y m2z) (point m1x m1y m1z) (point rx ry rz)
+unfoldable pub slots_refuse : Option Point → Option Point → Option Point → Option Point → Bool
+slots_refuse None m2 m1 r = false
+slots_refuse (Some l) None m1 r = false
+slots_refuse (Some l) (Some m2) None r = false
+slots_refuse (Some l) (Some m2) (Some m1) None = false
+slots_refuse (Some l) (Some m2) (Some m1) (Some r) = same_way l m2 m1 r
 
 -- scope: 2-sew. The geometry test on the slots that four vertices name.
 unfoldable pub bad_geometry : List ℕ → List Float → ℕ → ℕ → ℕ → ℕ → Bool

@@ -13,18 +13,12 @@ pub struct Point {
 }
 
 // The difference of two points.
+// Stays: a type of its own beside `Point`, so that neither is taken for the other.
 #[derive(Clone, Copy)]
 pub struct Vector {
     pub x: f64,
     pub y: f64,
     pub z: f64,
-}
-
-// What a vertex slot reads as: no vertex, or a point's three coordinates.
-#[derive(Clone, Copy)]
-pub enum Slot {
-    NoVertex,
-    At(f64, f64, f64),
 }
 
 // The vector that leads from b to a, coordinate by coordinate.
@@ -52,42 +46,34 @@ pub fn same_way(l: Point, m2: Point, m1: Point, r: Point) -> bool
     dot(minus(m1, l), minus(m2, r)) >= 0.0
 }
 
-// What the vertex slot of d reads as.
-pub fn slot_at(marks: &[u8], coords: &[f64], d: u32) -> Slot
+// The point in the vertex slot of d, where it holds one.
+pub fn slot_at(marks: &[u8], coords: &[f64], d: u32) -> Option<Point>
     requires { Lent marks.now coords.now d }
     ensures { result ≡ slot_at marks.now coords.now d }
 {
     let at = d as usize;
     if marks[at] == 0 {
-        return Slot::NoVertex;
+        return None;
     }
     let x = coords[3 * at];
     let y = coords[3 * at + 1];
     let z = coords[3 * at + 2];
-    Slot::At(x, y, z)
+    Some(Point { x, y, z })
 }
 
 // The test over four slots: only where all four are points can it refuse.
-pub fn slots_refuse(l: Slot, m2: Slot, m1: Slot, r: Slot) -> bool
+pub fn slots_refuse(
+    l: Option<Point>,
+    m2: Option<Point>,
+    m1: Option<Point>,
+    r: Option<Point>,
+) -> bool
     ensures { result ≡ slots_refuse l m2 m1 r }
 {
-    let Slot::At(x, y, z) = l else {
-        return false;
-    };
-    let at_l = Point { x, y, z };
-    let Slot::At(x, y, z) = m2 else {
-        return false;
-    };
-    let at_m2 = Point { x, y, z };
-    let Slot::At(x, y, z) = m1 else {
-        return false;
-    };
-    let at_m1 = Point { x, y, z };
-    let Slot::At(x, y, z) = r else {
-        return false;
-    };
-    let at_r = Point { x, y, z };
-    same_way(at_l, at_m2, at_m1, at_r)
+    match (l, m2, m1, r) {
+        (Some(l), Some(m2), Some(m1), Some(r)) => same_way(l, m2, m1, r),
+        _ => false,
+    }
 }
 
 // The 2-sew's geometry test over the slots at the vertex identifiers of ld, m2, m1 and rd: whether they refuse the sew.

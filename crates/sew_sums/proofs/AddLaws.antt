@@ -13,7 +13,6 @@ use mathlib.Core.Logic.{◌⊎◌, inl, inr, ⊎_elim, ◌≢◌, by_cases}
 use mathlib.Core.Bool.{true}
 use mathlib.Core.List.{List, [], ◌∷◌}
 use Rattle.map_betas.specs.Betas.{place, beta, darts, opp}
-use Rattle.map_betas.specs.Answers.{is_done}
 use Rattle.map_betas.specs.Guards.{Dart}
 use Rattle.map_betas.specs.Maps.{WellFormed}
 use Rattle.map_betas.specs.Cores.{link_core}
@@ -23,6 +22,7 @@ use Rattle.cell_steps.specs.Cgal.{composed}
 use Rattle.cell_steps.specs.Search.{Step}
 use Rattle.cell_steps.proofs.StepLaws.{Each, each_at}
 use Rattle.cell_steps.proofs.CgalLaws.{word, image_word, AreBetas}
+use Rattle.std.specs.Prelude.{is_ok}
 
 pub record Adds (rows rows' : List ℕ) (New : ℕ → ℕ → ℕ → Type 0) : Type 0 where
   pub kept : (i d : ℕ) → i < 4 → beta rows i d ≢ 0 → beta rows' i d ≡ beta rows i d
@@ -32,7 +32,7 @@ abbrev pub Linked : ℕ → ℕ → ℕ → ℕ → ℕ → ℕ → Type 0
 Linked i l r k x y = ((k ≡ i) × (x ≡ l) × (y ≡ r)) ⊎ ((k ≡ opp i) × (x ≡ r) × (y ≡ l))
 
 module _ (rows : List ℕ) (i l r : ℕ) (w : WellFormed rows) (h₁ : 1 ≤ i) (h₄ : i < 4) (dl : Dart (darts rows) 1 l) (dr : Dart (darts rows) 1 r)
-    (t : is_done (link_core rows i l r).answer ≡ true) where
+    (t : is_ok (link_core rows i l r).answer ≡ true) where
   abbrev rows₁ : List ℕ
   rows₁ = (link_core rows i l r).rows
 

@@ -11,7 +11,6 @@ use mathlib.Core.List.Memᴰ
 use mathlib.Core.List.{List}
 use mathlib.Mathlib.Logic.Relation.ReflTransGenᴰ
 use Rattle.map_betas.specs.Betas.{beta, darts}
-use Rattle.map_betas.specs.Answers.{is_done}
 use Rattle.map_betas.specs.Guards.{Dart}
 use Rattle.map_betas.specs.Maps.{WellFormed}
 use Rattle.map_betas.specs.Cores.{link_core}
@@ -26,9 +25,10 @@ use Rattle.cell_steps.proofs.StepLaws.{each_at, image_one}
 use Rattle.cell_steps.proofs.CgalLaws.{edge_serves}
 use Rattle.cell_steps.proofs.JoinLaws.{Sides, Joins, together, joined_cell}
 use Rattle.sew_sums.proofs.AddLaws.{Adds, Linked, link_adds, adds_step}
+use Rattle.std.specs.Prelude.{is_ok}
 
 module _ (rows : List ℕ) (ld rd : ℕ) (w : WellFormed rows) (dl : Dart (darts rows) 1 ld) (dr : Dart (darts rows) 1 rd)
-    (t : is_done (link_core rows 2 ld rd).answer ≡ true) where
+    (t : is_ok (link_core rows 2 ld rd).answer ≡ true) where
   abbrev rows₁ : List ℕ
   rows₁ = (link_core rows 2 ld rd).rows
 

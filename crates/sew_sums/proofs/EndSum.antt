@@ -11,7 +11,6 @@ use mathlib.Core.List.{List}
 use mathlib.Mathlib.Logic.Relation.ReflTransGenᴰ
 use Rattle.map_betas.specs.Betas.{beta, darts}
 use Rattle.map_betas.specs.Maps.{WellFormed}
-use Rattle.map_betas.proofs.BetaLaws.{larger_left, larger_right}
 use Rattle.cell_steps.specs.Steps.{step, image, vertex}
 use Rattle.cell_steps.specs.Search.{Step, Reach}
 use Rattle.cell_steps.specs.Cgal.{Orbit, vertexΦ}
@@ -106,8 +105,8 @@ module _ (rows : List ℕ) (w : WellFormed rows) (d : ℕ) (real : d ≢ 0) wher
   which : ((far_of rows d ≡ b₁) × (b₁ ≡ 0 → b₃ ≡ 0)) ⊎ ((far_of rows d ≡ b₃) × (b₃ ≡ 0 → b₁ ≡ 0))
   which =
       by_cases (dec_lt b₃ b₁)
-      (λ (h : b₃ < b₁). inl (sym (larger_left b₁ b₃ h), λ z. absurd (omega arith)))
-      (λ (h : b₃ < b₁ → ⊥). inr (sym (larger_right b₁ b₃ (omega arith)), λ z. omega arith))
+      (λ (h : b₃ < b₁). inl (omega arith, λ z. absurd (omega arith)))
+      (λ (h : b₃ < b₁ → ⊥). inr (omega arith, λ z. omega arith))
 
   -- over the dart, from its one end to the other
   to_one : b₃ ≢ 0 → b₁ ≢ 0 → Reach rows vertex b₃ b₁

@@ -17,10 +17,8 @@ use lib.Dec.{eqb}
 use lib.Ieee.{Float}
 use lib.ListN.{length}
 use borrow.Author.Tests.{eqb-false, not-true}
-use Rattle.map_betas.specs.declared.error.Answer.TheVariants.{Refused}
 use Rattle.map_betas.specs.declared.error.Refusal.TheVariants.{BadGeometry}
 use Rattle.map_betas.specs.Betas.{beta, darts}
-use Rattle.map_betas.specs.Answers.{is_done}
 use Rattle.map_betas.specs.Guards.{Dart}
 use Rattle.map_betas.specs.Maps.{WellFormed}
 use Rattle.map_betas.specs.Cores.{link_core}
@@ -35,13 +33,13 @@ use Rattle.cell_steps.proofs.JoinLaws.{together}
 use Rattle.sew_plan.specs.declared.Kind.TheVariants.{Merge}
 use Rattle.sew_plan.specs.declared.Entry.{Entry}
 use Rattle.sew_plan.specs.Plan.{merge_of}
-use Rattle.sew_plan.proofs.PlanLaws.{lesser_min}
 use Rattle.sew_ground.specs.Entries.{entries_if}
 use Rattle.sew_ground.specs.Sewn.{Work, work}
 use Rattle.sew_ground.specs.One.{one_far, one_entries, one_sew_on}
 use Rattle.sew_ground.specs.Two.{far_of, side_of, bad_sides, linked_sides, two_sew_on}
 use Rattle.sew_sums.proofs.AddLaws.{Adds, Linked, link_adds, adds_as}
 use Rattle.sew_sums.proofs.EndSum.{vertex_name, Apart, ends_cell}
+use Rattle.std.specs.Prelude.{Err, is_ok}
 use Rattle.sew_sums.proofs.EdgeSum as edges
 use Rattle.sew_sums.proofs.VertexSum as vertices
 
@@ -68,10 +66,10 @@ merged e = record { least = e.a; count = e.left + e.right }
 -- the lesser name, and the sum
 says : (c : Class) (a b : Cell) (e : Entry) → merge_of c a b ≡ e → together a b ≡ merged e
 unfolding merge_of
-says c a b e q = (λ i. record { least = sym (lesser_min a.least b.least) i; count = a.count + b.count }) ∙ ap merged q
+says c a b e q = ap merged q
 
 module _ (rows : List ℕ) (ld rd : ℕ) (w : WellFormed rows) (dl : Dart (darts rows) 1 ld) (dr : Dart (darts rows) 1 rd) where
-  pub one_sew_sum : is_done (one_sew_on rows ld rd).answer ≡ true → (e : Entry) → one_entries Merge rows ld rd ≡ e ∷ [] → (x : ℕ) →
+  pub one_sew_sum : is_ok (one_sew_on rows ld rd).answer ≡ true → (e : Entry) → one_entries Merge rows ld rd ≡ e ∷ [] → (x : ℕ) →
       Orbit rows vertexΦ (one_far rows ld) x ⊎ Orbit rows vertexΦ rd x → cell_of Vertex (one_sew_on rows ld rd).rows x ≡ merged e
   unfolding one_sew_on one_entries
   one_sew_sum t e q x o =
@@ -80,19 +78,19 @@ module _ (rows : List ℕ) (ld rd : ℕ) (w : WellFormed rows) (dl : Dart (darts
       vertices.vertex_cell rows ld rd w dl dr t n k.1 x o ∙ says Vertex _ _ e k.2
 
   abbrev sewn_by : Bool → Work
-  sewn_by b = cond b (work (Refused (BadGeometry 2 ld rd)) rows []) (linked_sides rows ld rd (side_of rows ld) (side_of rows rd))
+  sewn_by b = cond b (work (Err (BadGeometry 2 ld rd)) rows []) (linked_sides rows ld rd (side_of rows ld) (side_of rows rd))
 
   -- a 2-sew that is done has linked its darts
-  linked : (vertices : List ℕ) (coordinates : List Float) → is_done (two_sew_on vertices coordinates rows ld rd).answer ≡ true →
-      (is_done (link_core rows 2 ld rd).answer ≡ true) × ((two_sew_on vertices coordinates rows ld rd).rows ≡ (link_core rows 2 ld rd).rows)
+  linked : (vertices : List ℕ) (coordinates : List Float) → is_ok (two_sew_on vertices coordinates rows ld rd).answer ≡ true →
+      (is_ok (link_core rows 2 ld rd).answer ≡ true) × ((two_sew_on vertices coordinates rows ld rd).rows ≡ (link_core rows 2 ld rd).rows)
   unfolding two_sew_on linked_sides
   linked vertices coordinates = go (bad_sides vertices coordinates (side_of rows ld) (side_of rows rd))
     where
-      go : (b : Bool) → is_done (sewn_by b).answer ≡ true → (is_done (link_core rows 2 ld rd).answer ≡ true) × ((sewn_by b).rows ≡ (link_core rows 2 ld rd).rows)
+      go : (b : Bool) → is_ok (sewn_by b).answer ≡ true → (is_ok (link_core rows 2 ld rd).answer ≡ true) × ((sewn_by b).rows ≡ (link_core rows 2 ld rd).rows)
       go true t = absurd (true≢false (sym t))
       go false t = (t, refl)
 
-  module _ (vertices : List ℕ) (coordinates : List Float) (d : is_done (two_sew_on vertices coordinates rows ld rd).answer ≡ true) (e : Entry) where
+  module _ (vertices : List ℕ) (coordinates : List Float) (d : is_ok (two_sew_on vertices coordinates rows ld rd).answer ≡ true) (e : Entry) where
     pub two_sew_sum : entries_if true Edge Merge (cell_of Edge rows ld) (cell_of Edge rows rd) ≡ e ∷ [] → (x : ℕ) →
         Orbit rows edgeΦ ld x ⊎ Orbit rows edgeΦ rd x → cell_of Edge (two_sew_on vertices coordinates rows ld rd).rows x ≡ merged e
     two_sew_sum q x o =

@@ -14,14 +14,13 @@ use mathlib.Core.Bool.{true}
 use mathlib.Core.List.{List}
 use mathlib.Mathlib.Logic.Relation.ReflTransGenᴰ
 use Rattle.map_betas.specs.Betas.{beta, darts}
-use Rattle.map_betas.specs.Answers.{is_done}
 use Rattle.map_betas.specs.Guards.{Dart}
 use Rattle.map_betas.specs.Maps.{WellFormed}
 use Rattle.map_betas.specs.Cores.{link_core}
 use Rattle.map_betas.proofs.AnswerLaws.{not_both, rows_same}
 use Rattle.map_betas.proofs.Kept.{link_changes}
 use Rattle.map_betas.proofs.Always.{link_formed, link_length}
-use Rattle.map_betas.proofs.BetaLaws.{opp_high, larger_left, larger_right}
+use Rattle.map_betas.proofs.BetaLaws.{opp_high}
 use Rattle.cell_steps.specs.Steps.{step, image, vertex}
 use Rattle.cell_steps.specs.Search.{Step, Reach}
 use Rattle.cell_steps.specs.Cgal.{Orbit, vertexΦ}
@@ -31,10 +30,10 @@ use Rattle.cell_steps.proofs.StepLaws.{Each, each_at}
 use Rattle.cell_steps.proofs.CgalLaws.{at0, at2, at4, at5, vertex_serves}
 use Rattle.cell_steps.proofs.JoinLaws.{Sides, Joins, together, joined_cell}
 use Rattle.sew_ground.specs.One.{both_three, one_far, one_links}
-use Rattle.sew_ground.proofs.SideLaws.{larger_below}
 use Rattle.sew_ground.proofs.OneLaws.{both_left, both_right}
 use Rattle.sew_ground.proofs.OneBack.{LinksWay, stopped, single, turned, double, links_way, links_formed}
 use Rattle.sew_sums.proofs.AddLaws.{Adds, Linked, link_adds, adds_on, adds_as, adds_step}
+use Rattle.std.specs.Prelude.{is_ok, max}
 
 -- ---- links by beta 1, whatever their pairs
 
@@ -124,7 +123,7 @@ module _ (rows rows' : List ℕ) (w : WellFormed rows) (P : ℕ → ℕ → Type
 -- ---- the links of a 1-sew
 
 module _ (rows : List ℕ) (ld rd : ℕ) (w : WellFormed rows) (dl : Dart (darts rows) 1 ld) (dr : Dart (darts rows) 1 rd)
-    (t : is_done (one_links rows ld rd).answer ≡ true) where
+    (t : is_ok (one_links rows ld rd).answer ≡ true) where
   abbrev rows' : List ℕ
   rows' = (one_links rows ld rd).rows
 
@@ -144,14 +143,14 @@ module _ (rows : List ℕ) (ld rd : ℕ) (w : WellFormed rows) (dl : Dart (darts
   first_set : (k x y : ℕ) → Linked 1 ld rd k x y → Behind Set k x y
   first_set k x y n = ⊎_elim (λ q. inl (q.0, inl (q.1, q.2))) (λ q. inr (q.0, inl (q.2, q.1))) n
 
-  module _ (a : is_done (link_core rows 1 ld rd).answer ≡ true) where
+  module _ (a : is_ok (link_core rows 1 ld rd).answer ≡ true) where
     first_adds : Adds rows rows₁ (Linked 1 ld rd)
     first_adds = link_adds rows 1 ld rd w (omega arith) (omega arith) dl dr a
 
     first_ahead : beta rows₁ 1 ld ≡ rd
     first_ahead = (link_changes rows 1 ld rd w (omega arith) (omega arith) dl dr a).left
 
-    module _ (b : both_three rows ld rd ≡ true) (s : is_done (link_core rows₁ 1 r₃ l₃).answer ≡ true) where
+    module _ (b : both_three rows ld rd ≡ true) (s : is_ok (link_core rows₁ 1 r₃ l₃).answer ≡ true) where
       there : (d : ℕ) → beta rows 3 d ≢ 0 → Dart (darts rows₁) 1 (beta rows 3 d)
       there d n =
           record { allowed = omega arith; below = omega (arith, link_length rows 1 ld rd w (omega arith) (omega arith) dl dr, w.below 3 d) }
@@ -216,8 +215,8 @@ module _ (rows : List ℕ) (ld rd : ℕ) (w : WellFormed rows) (dl : Dart (darts
   which : ((far ≡ l₃) × (l₃ ≢ 0)) ⊎ ((far ≡ beta rows 2 ld) × (beta rows 2 ld ≡ 0 → l₃ ≡ 0))
   which =
       by_cases (dec_lt (beta rows 2 ld) l₃)
-      (λ (h : beta rows 2 ld < l₃). inl (sym (larger_left l₃ (beta rows 2 ld) h), λ z. absurd (omega arith)))
-      (λ (h : beta rows 2 ld < l₃ → ⊥). inr (sym (larger_right l₃ (beta rows 2 ld) (omega arith)), λ z. omega arith))
+      (λ (h : beta rows 2 ld < l₃). inl (omega arith, λ z. absurd (omega arith)))
+      (λ (h : beta rows 2 ld < l₃ → ⊥). inr (omega arith, λ z. omega arith))
 
   -- both are in its vertex
   near_three : l₃ ≢ 0 → Reach rows vertex far l₃
@@ -287,5 +286,5 @@ module _ (rows : List ℕ) (ld rd : ℕ) (w : WellFormed rows) (dl : Dart (darts
         cell_of Vertex rows' x ≡ together (cell_of Vertex rows far) (cell_of Vertex rows rd)
     vertex_cell =
         let k = links_formed rows ld rd w dl dr in
-        let far_below = larger_below (darts rows) l₃ (beta rows 2 ld) (w.below 3 ld) (w.below 2 ld) in
+        let far_below : max l₃ (beta rows 2 ld) < darts rows = omega (arith, w.below 3 ld, w.below 2 ld) in
         joined_cell Vertex vertexΦ vertex_serves rows rows' far rd w k.0 vertex_joins (ap (λ (m : ℕ). m / 4) k.1) far_below dr.below n real_r

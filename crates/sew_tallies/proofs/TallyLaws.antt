@@ -24,8 +24,6 @@ use Rattle.map_betas.specs.Maps.{WellFormed}
 use Rattle.cell_steps.specs.Idents.{least_from, least}
 use Rattle.cell_steps.proofs.Lists.{bool}
 use Rattle.sew_plan.specs.declared.Entry.{Entry}
-use Rattle.sew_plan.specs.Plan.{lesser_of}
-use Rattle.sew_plan.proofs.PlanLaws.{lesser_min}
 use Rattle.sew_pairs.specs.Pairs.{Pairs, lefts, rights, pair_entries, entries_of, leg_over, leg_pairs, leg_end, Over}
 use Rattle.sew_pairs.specs.Three.{first_pairs, first_end, back_pairs, pairs_of, splits_of, three_entries}
 use Rattle.sew_pairs.proofs.FewLaws.{pairs_most, unsew_most}
@@ -52,12 +50,12 @@ null_end d h = ⊎_elim (λ t. eqb-true d 0 t) (λ (t : eqb d 0 ≡ false). absu
 -- ---- pair by pair
 
 module _ (splits : Bool) (rows : List ℕ) where
-  pub noted : (t : Tally) (r a b k x y : ℕ) → a ≡ lesser_of t.left t.l → b ≡ lesser_of t.right r → k ≡ pair_count splits rows t.l r →
+  pub noted : (t : Tally) (r a b k x y : ℕ) → a ≡ min t.left t.l → b ≡ min t.right r → k ≡ pair_count splits rows t.l r →
       x ≡ y → record { left = a; right = b; count = t.count + k; l = x } ≡ tallied splits rows t ((t.l, r) ∷ []) y
   unfolding tallied lefts rights count_of least_from
   noted t r a b k x y ea eb ek ex =
       let n : t.count + k ≡ t.count + (pair_count splits rows t.l r + 0) = omega (arith, ek) in
-      λ s. record { left = (ea ∙ lesser_min t.left t.l) s; right = (eb ∙ lesser_min t.right r) s; count = n s; l = ex s }
+      λ s. record { left = ea s; right = eb s; count = n s; l = ex s }
 
   none_more : (t : Tally) → tallied splits rows t [] t.l ≡ t
   unfolding tallied lefts rights count_of least_from

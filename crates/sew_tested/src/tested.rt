@@ -8,8 +8,7 @@ ghost use Rattle.sew_ground.specs.Sewn.{sewn};
 ghost use Rattle.sew_ground.specs.Calls.{sew_done};
 ghost use Rattle.sew_operations.specs.Operations.{work_of, Slots, operation as operationOf, bare};
 
-use cell_scratch::scratch::{wipe_marks, wipe_queue};
-use map_betas::error::{Answer, is_done};
+use map_betas::error::Answer;
 use map_guard::guard::guard;
 use sew_operations::operations::{Operation, loans_of, run};
 
@@ -33,8 +32,8 @@ fn run_wiped(
         (work_of operation vertices.now coordinates.now rows.old ld rd)) }
 {
     let n = rows.len() / 4;
-    wipe_marks(marks, n);
-    wipe_queue(queue, n);
+    marks[..n].fill(0);
+    queue[..n].fill(0);
     run(
         operation,
         rows,
@@ -72,10 +71,7 @@ pub fn operate(
         vertices.len(),
         coordinates.len(),
     );
-    let g = guard(rows, flags, loans, 1, ld, rd);
-    if !is_done(g) {
-        return g;
-    }
+    guard(rows, flags, loans, 1, ld, rd)?;
     run_wiped(
         operation,
         rows,

@@ -8,8 +8,8 @@ ghost use Rattle.sew_ground.specs.Sewn.{leaves, sewn};
 ghost use Rattle.sew_pairs.specs.Three.{three_unsew_on};
 
 use link_three::three::{three_link_on, three_unlink_on};
-use map_betas::error::{Answer, is_done};
-use sew_one_links::one_links::dart_of;
+use map_betas::error::Answer;
+use map_betas::rows::Rows;
 use sew_settling::settling::settle_splits;
 
 // The 3-unsew of a real dart of a map.
@@ -24,15 +24,10 @@ pub fn three_unsew_on(
     ensures plan_after { leaves result rows.new plan.new ≡ sewn rows.old plan.old (three_unsew_on rows.old ld) }
     ensures marks_unchanged { (marks.new ≡ marks.old) × (queue.new ≡ queue.old) }
 {
-    let a = three_unlink_on(rows, ld);
-    if !is_done(a) {
-        return a;
-    }
-    let rd = dart_of(a);
-    let b = settle_splits(rows, marks, queue, plan, ld, rd);
-    if !is_done(b) {
+    let rd = three_unlink_on(rows, ld)?.value;
+    let settled = settle_splits(Rows { list: rows }, marks, queue, plan, ld, rd);
+    if settled.is_err() {
         let _ = three_link_on(rows, ld, rd);
-        return b;
     }
-    b
+    settled
 }

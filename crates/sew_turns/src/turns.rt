@@ -7,9 +7,9 @@ ghost use Rattle.sew_ground.specs.Sewn.{leaves};
 ghost use Rattle.sew_commands.specs.Commands.{sew_tested, run as run_of};
 
 use link_run::links::join;
-use map_betas::error::{Answer, Refusal, is_done};
+use map_betas::error::Answer;
 use map_guard::guard::dart_test;
-use sew_commands::commands::{Command, command_of, sew_second};
+use sew_commands::commands::{Command, sew_second};
 use sew_operations::operations::{Operation, run};
 
 // A sew or an unsew of any darts of a map: its darts are tested first. Marks and queue are 0 before and after, n places each.
@@ -33,10 +33,7 @@ fn sew(
 {
     let second = sew_second(operation, ld, rd);
     let n = rows.len() / 4;
-    let t = dart_test(flags, n, 1, ld, second);
-    if !is_done(t) {
-        return t;
-    }
+    dart_test(flags, n, 1, ld, second)?;
     run(
         operation,
         rows,
@@ -70,7 +67,7 @@ pub fn run_command(
         ≡ run_of flags.now vertices.now coordinates.now operation ld rd rows.old plan.old }
     ensures marks_unchanged { (marks.new ≡ marks.old) × (queue.new ≡ queue.old) }
 {
-    let command = command_of(operation);
+    let command = Command::try_from(operation)?;
     match command {
         Command::Links(link) => join(link, rows, flags, ld, rd),
         Command::Sews(o) => sew(
@@ -85,6 +82,5 @@ pub fn run_command(
             ld,
             rd,
         ),
-        Command::Unknown => Answer::Refused(Refusal::BadCommand(operation)),
     }
 }

@@ -8,10 +8,10 @@ ghost use Rattle.sew_ground.specs.Sewn.{leaves, sewn};
 ghost use Rattle.sew_ground.specs.Two.{linked_sides, two_sew_on, two_unsew_on};
 
 use map_betas::betas::{link_core, unlink_core};
-use map_betas::error::{Answer, Refusal, is_done};
+use map_betas::error::{Answer, Refusal};
+use map_betas::rows::Rows;
 use sew_ground::settle::settle;
 use sew_ground::sides::{Side, side_at, two_items};
-use sew_one_links::one_links::dart_of;
 use sew_plan::Kind;
 use sew_points::bad_geometry;
 
@@ -21,16 +21,12 @@ fn link_sides(rows: &mut [u32], plan: &mut [u32], ld: u32, rd: u32, l: Side, r: 
     ensures { leaves result rows.new plan.new
         ≡ sewn rows.old plan.old (linked_sides rows.old ld rd l r) }
 {
-    let a = link_core(rows, 2, ld, rd);
-    if !is_done(a) {
-        return a;
-    }
-    let b = settle(plan, 0, two_items(Kind::Merge, l, r));
-    if !is_done(b) {
+    link_core(rows, 2, ld, rd)?;
+    let settled = settle(plan, 0, &two_items(Kind::Merge, l, r));
+    if settled.is_err() {
         let _ = unlink_core(rows, 2, ld);
-        return b;
     }
-    b
+    settled
 }
 
 // The 2-sew of two real darts of a map with vertices.
@@ -50,8 +46,9 @@ pub fn two_sew_on(
         ≡ sewn rows.old plan.old (two_sew_on vertices.now coordinates.now rows.old ld rd) }
     ensures marks_unchanged { (marks.new ≡ marks.old) × (queue.new ≡ queue.old) }
 {
-    let l = side_at(rows, marks, queue, ld);
-    let r = side_at(rows, marks, queue, rd);
+    let lent = Rows { list: rows };
+    let l = side_at(lent, marks, queue, ld);
+    let r = side_at(lent, marks, queue, rd);
     if bad_geometry(
         vertices,
         coordinates,
@@ -60,7 +57,7 @@ pub fn two_sew_on(
         l.end.least,
         r.near.least,
     ) {
-        return Answer::Refused(Refusal::BadGeometry(2, ld, rd));
+        return Err(Refusal::BadGeometry(2, ld, rd));
     }
     link_sides(rows, plan, ld, rd, l, r)
 }
@@ -77,17 +74,13 @@ pub fn two_unsew_on(
     ensures plan_after { leaves result rows.new plan.new ≡ sewn rows.old plan.old (two_unsew_on rows.old ld) }
     ensures marks_unchanged { (marks.new ≡ marks.old) × (queue.new ≡ queue.old) }
 {
-    let a = unlink_core(rows, 2, ld);
-    if !is_done(a) {
-        return a;
-    }
-    let rd = dart_of(a);
-    let l = side_at(rows, marks, queue, ld);
-    let r = side_at(rows, marks, queue, rd);
-    let b = settle(plan, rd, two_items(Kind::Split, l, r));
-    if !is_done(b) {
+    let rd = unlink_core(rows, 2, ld)?.value;
+    let lent = Rows { list: rows };
+    let l = side_at(lent, marks, queue, ld);
+    let r = side_at(lent, marks, queue, rd);
+    let settled = settle(plan, rd, &two_items(Kind::Split, l, r));
+    if settled.is_err() {
         let _ = link_core(rows, 2, ld, rd);
-        return b;
     }
-    b
+    settled
 }

@@ -1,4 +1,5 @@
 // The calls: unsews for any rows, flags, loans and darts.
+// Stays: three calls beside each other, since callers and C know each by its name; what they share is `operate_bare`.
 ghost use Rattle.std.specs.Prelude.{◌≡◌};
 ghost use Rattle.map_betas.specs.Answers.{outcome};
 ghost use Rattle.sew_ground.specs.Calls.{one_unsew, two_unsew};

@@ -5,12 +5,10 @@
 --   hinged, hinged_sewn         n=4 b1(3)=1 b3(1)=2, where two merges name one vertex, so that their sizes do not add up; the same with 2 and 3 2-linked
 --   marked, none, places        vertices: slots 1 to 4 hold points, no slot does, the points
 --   lines                       the table
-use Rattle.std.specs.Prelude.{ℕ, false, List, [], ◌∷◌, ◌++◌, pos, Float}
+use Rattle.std.specs.Prelude.{ℕ, false, List, [], ◌∷◌, ◌++◌, pos, Float, Err}
 use Rattle.std.specs.Float.{fin}
-use Rattle.map_betas.specs.declared.error.Answer.{Answer}
-use Rattle.map_betas.specs.declared.error.Answer.TheVariants.{Done, Refused}
 use Rattle.map_betas.specs.declared.error.Refusal.TheVariants.{NotAMap, BadDart, AlreadyFree, AsymmetricalFaces, BadGeometry, PlanRoom}
-use Rattle.map_betas.specs.Answers.{Outcome, outcome}
+use Rattle.map_betas.specs.Answers.{Outcome, outcome, Answer, done}
 use Rattle.link_glue.specs.Examples.{Line, line, row, free, lone, pair, pair_linked, in_use}
 use Rattle.sew_points.specs.Geometry.{plus_zero}
 use Rattle.sew_ground.specs.Calls.{SewLoans, one_sew, one_unsew, two_sew, two_unsew}
@@ -70,30 +68,30 @@ leaving a rows zeros plan = outcome a (rows, zeros, zeros, plan)
 unfoldable pub lines : List (Line (Outcome SewLoans))
 lines =
     -- nothing at the joint but ld and rd: no entry
-    line (one_sew lone zeros3 zeros3 (in_use lone) sevens 1 2) (leaving (Done 0 0) pair zeros3 sevens)
+    line (one_sew lone zeros3 zeros3 (in_use lone) sevens 1 2) (leaving (done 0 0) pair zeros3 sevens)
     -- the vertex of ld's beta 2 image and that of rd become one
-    ∷ line (one_sew flap zeros4 zeros4 (in_use flap) sevens 1 2) (leaving (Done 0 1) flap_sewn zeros4 (six 1 2 3 2 1 1))
-    ∷ line (one_sew flap zeros4 zeros4 (in_use flap) zeros5 1 2) (leaving (Refused (PlanRoom 1)) flap zeros4 zeros5)
-    ∷ line (one_unsew flap_sewn zeros4 zeros4 (in_use flap_sewn) sevens 1) (leaving (Done 2 1) flap zeros4 (six 11 3 2 2 1 1))
-    ∷ line (one_unsew lone zeros3 zeros3 (in_use lone) sevens 1) (leaving (Refused (AlreadyFree 1 1)) lone zeros3 sevens)
+    ∷ line (one_sew flap zeros4 zeros4 (in_use flap) sevens 1 2) (leaving (done 0 1) flap_sewn zeros4 (six 1 2 3 2 1 1))
+    ∷ line (one_sew flap zeros4 zeros4 (in_use flap) zeros5 1 2) (leaving (Err (PlanRoom 1)) flap zeros4 zeros5)
+    ∷ line (one_unsew flap_sewn zeros4 zeros4 (in_use flap_sewn) sevens 1) (leaving (done 2 1) flap zeros4 (six 11 3 2 2 1 1))
+    ∷ line (one_unsew lone zeros3 zeros3 (in_use lone) sevens 1) (leaving (Err (AlreadyFree 1 1)) lone zeros3 sevens)
     -- the second unlink reads the rows as written so far
-    ∷ line (one_unsew pair_linked zeros3 zeros3 (in_use pair_linked) sevens 1) (leaving (Refused (AsymmetricalFaces 1 2)) pair_linked zeros3 sevens)
+    ∷ line (one_unsew pair_linked zeros3 zeros3 (in_use pair_linked) sevens 1) (leaving (Err (AsymmetricalFaces 1 2)) pair_linked zeros3 sevens)
     -- the edges run against each other: 2:1,1,3; 1:1,1,4; 1:2,2,3
     ∷ line (two_sew strips zeros5 zeros5 (in_use strips) marked (places origin east east origin) three 1 3)
-    (leaving (Done 0 3) strips_sewn zeros5 (six 2 1 1 3 1 1 ++ six 1 1 1 4 1 1 ++ six 1 2 2 3 1 1))
+    (leaving (done 0 3) strips_sewn zeros5 (six 2 1 1 3 1 1 ++ six 1 1 1 4 1 1 ++ six 1 2 2 3 1 1))
     -- the edges stand at a right angle: 10
     ∷ line (two_sew strips zeros5 zeros5 (in_use strips) marked (places origin east origin north) sevens 1 3)
-    (leaving (Refused (BadGeometry 2 1 3)) strips zeros5 sevens)
+    (leaving (Err (BadGeometry 2 1 3)) strips zeros5 sevens)
     -- names and sizes are taken before linking
     ∷ line (two_sew bent zeros4 zeros4 (in_use bent) zeros4 (origin ++ origin ++ origin ++ origin) three 1 3)
-    (leaving (Done 0 3) bent_sewn zeros4 (six 2 1 1 3 2 1 ++ six 1 1 1 2 1 1 ++ six 1 2 2 3 1 1))
+    (leaving (done 0 3) bent_sewn zeros4 (six 2 1 1 3 2 1 ++ six 1 1 1 2 1 1 ++ six 1 2 2 3 1 1))
     -- the edge of three darts is as large as both; the vertex of three is not: two entries name the vertex of 1
     ∷ line (two_sew hinged zeros4 zeros4 (in_use hinged) zeros4 (origin ++ origin ++ origin ++ origin) three 2 3)
-    (leaving (Done 0 3) hinged_sewn zeros4 (six 2 1 1 3 2 1 ++ six 1 1 2 1 1 1 ++ six 1 1 1 3 1 1))
+    (leaving (done 0 3) hinged_sewn zeros4 (six 2 1 1 3 2 1 ++ six 1 1 2 1 1 1 ++ six 1 1 1 3 1 1))
     ∷ line (two_unsew strips_sewn zeros5 zeros5 (in_use strips_sewn) three 1)
-    (leaving (Done 3 3) strips zeros5 (six 12 1 3 1 1 1 ++ six 11 1 4 1 1 1 ++ six 11 2 3 2 1 1))
-    ∷ line (two_unsew strips zeros5 zeros5 (in_use strips) sevens 1) (leaving (Refused (AlreadyFree 2 1)) strips zeros5 sevens)
+    (leaving (done 3 3) strips zeros5 (six 12 1 3 1 1 1 ++ six 11 1 4 1 1 1 ++ six 11 2 3 2 1 1))
+    ∷ line (two_unsew strips zeros5 zeros5 (in_use strips) sevens 1) (leaving (Err (AlreadyFree 2 1)) strips zeros5 sevens)
     -- an unused dart that is given, and one that is linked
-    ∷ line (one_sew lone zeros3 zeros3 (0 ∷ 0 ∷ 1 ∷ []) sevens 1 2) (leaving (Refused (BadDart 2)) lone zeros3 sevens)
-    ∷ line (two_unsew strips_sewn zeros5 zeros5 (0 ∷ 0 ∷ 0 ∷ 0 ∷ 1 ∷ []) sevens 1) (leaving (Refused (NotAMap 4 4)) strips_sewn zeros5 sevens)
+    ∷ line (one_sew lone zeros3 zeros3 (0 ∷ 0 ∷ 1 ∷ []) sevens 1 2) (leaving (Err (BadDart 2)) lone zeros3 sevens)
+    ∷ line (two_unsew strips_sewn zeros5 zeros5 (0 ∷ 0 ∷ 0 ∷ 0 ∷ 1 ∷ []) sevens 1) (leaving (Err (NotAMap 4 4)) strips_sewn zeros5 sevens)
     ∷ []

@@ -6,10 +6,8 @@
 --   face_lines         the open chain 1, 2, and the maps that tell the walk of `face_id` from its variants
 --   cell_lines         sizes: the null dart, and the cells after two 2-sews of which a plan does not tell
 --   table             the lines of links, identifiers, sews and unsews
-use Rattle.std.specs.Prelude.{ℕ, List, [], ◌∷◌, ◌++◌}
-use Rattle.map_betas.specs.declared.error.Answer.{Answer}
-use Rattle.map_betas.specs.declared.error.Answer.TheVariants.{Done}
-use Rattle.map_betas.specs.Answers.{Outcome}
+use Rattle.std.specs.Prelude.{ℕ, List, [], ◌∷◌, ◌++◌, Ok}
+use Rattle.map_betas.specs.Answers.{Outcome, Answer, done}
 use Rattle.link_glue.specs.Examples.{Line, line, row, free, pair, in_use, lines as linkLines}
 use Rattle.cell_steps.specs.declared.cells.Class.{Class}
 use Rattle.cell_steps.specs.declared.cells.Class.TheVariants.{Vertex, Edge, Face, Volume}
@@ -40,7 +38,7 @@ seen f [] = []
 seen f (l ∷ ls) = line (f l.call) (f l.says) ∷ seen f ls
 
 abbrev pub named : Class → List ℕ → List ℕ → ℕ → ℕ → ℕ → Line Shown
-named class rows zeros d x k = line (of_id rows (id_call rows zeros zeros (in_use rows) class d)) (shown (Done x k) rows [])
+named class rows zeros d x k = line (of_id rows (id_call rows zeros zeros (in_use rows) class d)) (shown (done x k) rows [])
 
 -- the face of d, and what the document says
 abbrev pub face : List ℕ → List ℕ → ℕ → ℕ → Line Shown

@@ -1,7 +1,7 @@
 // What is lent to a call, by its record.
 ghost use Rattle.std.specs.Prelude.{◌≤◌};
 
-use crate::records::{darts, fill, size};
+use crate::records::{byte, darts, fill, size};
 
 // The numbers of a record from a place on: 32, of which a call is lent the first.
 pub fn numbers(record: &[u8], from: usize) -> [u32; 32] {
@@ -18,35 +18,21 @@ pub fn rows_before(record: &[u8]) -> [u32; 32] {
     numbers(record, 12 + size(record, 10) + darts(record))
 }
 
-// The byte at a place, 0 behind the end.
-fn byte(bytes: &[u8], at: usize) -> u8 {
-    if bytes.len() <= at {
-        return 0;
-    }
-    bytes[at]
-}
-
 // The flags of a record: 8, of which a call is lent as many as there are darts.
 pub fn flags(record: &[u8]) -> [u8; 8] {
     let at = 12 + size(record, 10);
-    [
-        byte(record, at),
-        byte(record, at + 1),
-        byte(record, at + 2),
-        byte(record, at + 3),
-        byte(record, at + 4),
-        byte(record, at + 5),
-        byte(record, at + 6),
-        byte(record, at + 7),
-    ]
+    let mut flags = [0; 8];
+    for (d, flag) in flags.iter_mut().enumerate() {
+        *flag = byte(record, at + d);
+    }
+    flags
 }
 
 // How many numbers a list of commands has, at most 32.
 pub fn list_length(record: &[u8]) -> usize
     ensures { result ≤ 32 }
 {
-    let n = size(record, 10);
-    if n < 33 { n } else { 32 }
+    size(record, 10).min(32)
 }
 
 // The vertices of a 2-sew: none (setting 0), or one at each dart.

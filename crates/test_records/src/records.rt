@@ -8,33 +8,29 @@ ghost use Rattle.std.specs.Prelude.{◌≤◌};
 pub const FILLER: u32 = 3235774464;
 
 // What a walk met: the records, those that differ, the first of these counted from 1, and the bytes that are no record.
-#[derive(Clone, Copy)]
+#[derive(Clone, Copy, Debug)]
 pub struct Walked {
     pub records: u64,
     pub differences: u64,
-    pub first: u64,
+    pub first: Option<u64>,
     pub rest: usize,
 }
 
-// A byte as a wider number.
-fn wide(x: u8) -> u32 {
-    x as u32
+// The byte at a place, 0 behind the end.
+pub fn byte(bytes: &[u8], at: usize) -> u8 {
+    bytes.get(at).copied().unwrap_or(0)
 }
 
 // The number at a place, 0 behind the end.
 pub fn word(bytes: &[u8], at: usize) -> u32 {
-    if bytes.len() <= at {
-        return 0;
-    }
-    wide(bytes[at])
+    u32::from(byte(bytes, at))
 }
 
 // The number at a place as a count.
 pub fn size(bytes: &[u8], at: usize) -> usize
     ensures { result ≤ 255 }
 {
-    let x = word(bytes, at);
-    if x < 256 { x as usize } else { 0 }
+    usize::from(byte(bytes, at))
 }
 
 // The darts of a record, at most 8.
@@ -49,8 +45,7 @@ pub fn darts(record: &[u8]) -> usize
 pub fn room(record: &[u8]) -> usize
     ensures { result ≤ 64 }
 {
-    let n = size(record, 9);
-    if n < 65 { n } else { 64 }
+    size(record, 9).min(64)
 }
 
 // The length of the first record by its own counts.
@@ -62,66 +57,41 @@ pub fn extent(bytes: &[u8]) -> usize
 
 // Copies numbers of a record into rows.
 pub fn fill(rows: &mut [u32], bytes: &[u8]) {
-    let mut i = 0;
-    while i < rows.len() {
-        rows[i] = word(bytes, i);
-        i += 1;
+    for (i, row) in rows.iter_mut().enumerate() {
+        *row = word(bytes, i);
     }
 }
 
 // What stands at a place of a loan whose first words were written: the record's number, or behind those what stood there before.
-fn wanted(bytes: &[u8], count: usize, i: usize) -> u32 {
-    if i < count { word(bytes, i) } else { FILLER }
+fn wanted(words: &[u8], i: usize) -> u32 {
+    words.get(i).copied().map_or(FILLER, u32::from)
 }
 
-// Whether the first words of a loan are the record's, and the rest as before the call.
-pub fn same(list: &[u32], count: usize, bytes: &[u8]) -> bool {
-    if list.len() < count {
-        return false;
-    }
-    let mut i = 0;
-    while i < list.len() {
-        if list[i] != wanted(bytes, count, i) {
-            return false;
-        }
-        i += 1;
-    }
-    true
+// Whether a loan starts with the words of a record, and the rest is as before the call.
+pub fn same(list: &[u32], words: &[u8]) -> bool {
+    words.len() <= list.len() && list.iter().enumerate().all(|(i, &x)| x == wanted(words, i))
 }
 
 // Counts a record by its operation and by its number.
 pub fn count(record: &[u8], agree: &mut [u64; 32], numbers: &mut [u64; 16]) {
-    let operation = size(record, 0);
-    if operation < 32 {
-        agree[operation] = std::num::wrapping_add_u64(agree[operation], 1);
+    if let Some(times) = agree.get_mut(size(record, 0)) {
+        *times = times.wrapping_add(1);
     }
-    let number = size(record, 4);
-    if number < 16 {
-        numbers[number] = std::num::wrapping_add_u64(numbers[number], 1);
+    if let Some(times) = numbers.get_mut(size(record, 4)) {
+        *times = times.wrapping_add(1);
     }
 }
 
 // Notes one record more.
 pub fn noted(walked: Walked, good: bool) -> Walked {
-    let records = std::num::wrapping_add_u64(walked.records, 1);
+    let records = walked.records.wrapping_add(1);
     if good {
-        return Walked {
-            records: records,
-            differences: walked.differences,
-            first: walked.first,
-            rest: walked.rest,
-        };
+        return Walked { records, ..walked };
     }
-    let differences = std::num::wrapping_add_u64(walked.differences, 1);
-    let first = if walked.differences == 0 {
-        records
-    } else {
-        walked.first
-    };
     Walked {
-        records: records,
-        differences: differences,
-        first: first,
-        rest: walked.rest,
+        records,
+        differences: walked.differences.wrapping_add(1),
+        first: walked.first.or(Some(records)),
+        ..walked
     }
 }

@@ -1,65 +1,55 @@
 // The exported calls by their number in the list.
 use crate::cells::cells;
 use crate::joins::{commands, join};
-use inkcapper::{links, reads};
+use inkcapper::Answer;
 use test_records::records::word;
 
-// The answer of no call.
-pub const NONE: u32 = 255;
-
-// Makes the call that a record names: its number is answered, the values are written.
+// Makes the call that a record names, if it names one.
+// Stays: an operation is a number, as the records have it: an enum would be made of the number and matched at once.
 pub fn call(
     record: &[u8],
     rows: &mut [u32],
     output: &mut [u32],
     flags: &[u8],
     plan: &mut [u32],
-    values: &mut [u64; 3],
-) -> u32 {
+) -> Option<Answer> {
     let operation = word(record, 0);
     let a = word(record, 2);
     let b = word(record, 3);
     if operation < 4 {
-        return read(operation, rows, a, b, values);
+        return read(operation, rows, a, b);
     }
     if operation < 10 {
-        return link(operation, rows, flags, a, b, values);
+        return link(operation, rows, flags, a, b);
     }
     if operation < 15 {
-        return join(record, rows, flags, plan, values);
+        return join(record, rows, flags, plan);
     }
     if operation < 31 {
-        return cells(record, rows, output, flags, values);
+        return cells(record, rows, output, flags);
     }
-    commands(record, rows, output, flags, plan, values)
+    Some(commands(record, rows, output, flags, plan))
 }
 
 // Beta reads and free tests.
-fn read(operation: u32, rows: &[u32], a: u32, b: u32, values: &mut [u64; 3]) -> u32 {
+fn read(operation: u32, rows: &[u32], a: u32, b: u32) -> Option<Answer> {
     match operation {
-        1 => reads::inkcapper_beta(rows, a, b, values),
-        2 => reads::inkcapper_is_i_free(rows, a, b, values),
-        3 => reads::inkcapper_is_free(rows, a, values),
-        _ => NONE,
+        1 => Some(inkcapper::beta(rows, a, b)),
+        2 => Some(inkcapper::is_i_free(rows, a, b)),
+        3 => Some(inkcapper::is_free(rows, a)),
+        _ => None,
     }
 }
 
 // Links and unlinks.
-fn link(
-    operation: u32,
-    rows: &mut [u32],
-    flags: &[u8],
-    a: u32,
-    b: u32,
-    values: &mut [u64; 3],
-) -> u32 {
+fn link(operation: u32, rows: &mut [u32], flags: &[u8], a: u32, b: u32) -> Option<Answer> {
     match operation {
-        4 => links::inkcapper_one_link(rows, flags, a, b, values),
-        5 => links::inkcapper_two_link(rows, flags, a, b, values),
-        6 => links::inkcapper_three_link(rows, flags, a, b, values),
-        7 => links::inkcapper_one_unlink(rows, flags, a, values),
-        8 => links::inkcapper_two_unlink(rows, flags, a, values),
-        9 => links::inkcapper_three_unlink(rows, flags, a, values),
-        _ => NONE,
+        4 => Some(inkcapper::link::<1>(rows, flags, a, b)),
+        5 => Some(inkcapper::link::<2>(rows, flags, a, b)),
+        6 => Some(inkcapper::three_link(rows, flags, a, b)),
+        7 => Some(inkcapper::unlink::<1>(rows, flags, a)),
+        8 => Some(inkcapper::unlink::<2>(rows, flags, a)),
+        9 => Some(inkcapper::three_unlink(rows, flags, a)),
+        _ => None,
     }
 }

@@ -1,8 +1,12 @@
 // The replay: record after record, each with its call.
 use crate::calls::call;
+use inkcapper::hand_on;
 use test_records::compared::as_recorded;
 use test_records::loans::{flags, rows_before};
 use test_records::records::{FILLER, Walked, count, darts, extent, noted, room};
+
+// The number that stands for no call.
+const NONE: u32 = 255;
 
 // Makes a record's call on these loans and compares.
 fn replayed(
@@ -13,7 +17,10 @@ fn replayed(
     plan: &mut [u32],
 ) -> bool {
     let mut values = [0u64; 3];
-    let number = call(record, rows, output, flags, plan, &mut values);
+    let number = match call(record, rows, output, flags, plan) {
+        Some(answer) => hand_on(answer, &mut values),
+        None => NONE,
+    };
     as_recorded(record, number, &values, rows, output, plan)
 }
 
@@ -45,11 +52,12 @@ fn replay(record: &[u8], agree: &mut [u64; 32], numbers: &mut [u64; 16]) -> bool
 }
 
 // Replays record after record, until no whole one is left.
+// Stays: how far the next record reaches stands in it, so no range has the places.
 pub fn walk(bytes: &[u8], agree: &mut [u64; 32], numbers: &mut [u64; 16]) -> Walked {
     let mut walked = Walked {
         records: 0,
         differences: 0,
-        first: 0,
+        first: None,
         rest: bytes.len(),
     };
     let mut at = 0;

@@ -7,12 +7,10 @@ use image_words::word_at;
 use program_input::read_full;
 use report_program::print_report;
 use std::io;
-use test_print::{put, put_count};
 
 // Writes the number of a case, and the report of its bytes.
 fn print_case(rt: &impl Print, k: u64, bytes: &[u8]) -> io::Result<()> {
-    put_count(rt, b"case ", k)?;
-    put(rt, b"\n")?;
+    println!(rt; "case {k}")?;
     print_report(rt, bytes, false)
 }
 
@@ -29,6 +27,7 @@ fn behind(cases: &[u8], at: usize) -> usize
 }
 
 // Writes the report of each case.
+// Stays: the next place is read from the cases, so no range has it.
 fn print_cases(rt: &impl Print, cases: &[u8]) -> io::Result<()>
     requires { length cases.now ≤ 131072 }
 {

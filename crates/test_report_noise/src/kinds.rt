@@ -9,6 +9,7 @@ use crate::noise::below;
 use crate::parts;
 
 // The kinds there are.
+// Stays: a kind is a number, since it says how many words of the header are right, and each kind begins its noise at its own.
 pub const KINDS: u32 = 14;
 
 // The length of a case: that of an image of n darts and v vertices, or any for the kinds that have no right n.

@@ -5,7 +5,7 @@ ghost use Rattle.std.specs.Prelude.{◌<◌, ◌≤◌};
 
 use noise::{below, next};
 use std::io;
-use tally::reported;
+use tally::{Counts, Outcome, reported};
 
 mod kinds;
 mod lines;
@@ -17,9 +17,9 @@ mod tally;
 const CASES: u32 = 2000;
 
 // What came of a case, the sum behind it, and the number from which the next one goes on.
-#[derive(Clone, Copy)]
+#[derive(Clone, Copy, Debug)]
 struct Ran {
-    outcome: usize,
+    outcome: Outcome,
     sum: u32,
     seed: u32,
 }
@@ -49,35 +49,24 @@ fn run_case(kind: usize, seed: u32, sum: u32) -> Ran {
     run_over(&mut bytes[..m], kind, n, v, third, sum)
 }
 
-// Counts an outcome.
-fn count(counts: &mut [u64; 12], outcome: usize) {
-    if outcome < 12 {
-        counts[outcome] = std::num::wrapping_add_u64(counts[outcome], 1);
-    }
-}
-
 // Runs the cases of a kind and writes its line. A kind's first number is its own, so that each can be run again by itself.
 fn run_kind(rt: &impl Print, kind: u32) -> io::Result<()> {
-    let mut counts = [0u64; 12];
+    let mut counts = Counts::NONE;
     let mut sum = 0;
     let mut x = kind;
-    let mut k = 0;
-    while k < CASES {
+    for _ in 0..CASES {
         let ran = run_case(kind as usize, x, sum);
-        count(&mut counts, ran.outcome);
+        counts.count(ran.outcome);
         sum = ran.sum;
         x = ran.seed;
-        k += 1;
     }
     lines::put_line(rt, kind as usize, &counts, sum)
 }
 
 // Runs every kind.
 fn main(rt: HostRuntime) -> io::Result<()> {
-    let mut kind = 0;
-    while kind < kinds::KINDS {
+    for kind in 0..kinds::KINDS {
         run_kind(&rt, kind)?;
-        kind += 1;
     }
     Ok(())
 }

@@ -1,16 +1,9 @@
 // Noise: a linear congruential generator. Its upper bits are used, since its lower ones repeat soon.
-ghost use Rattle.std.specs.Prelude.{◌≡◌, ◌<◌, ◌≤◌};
-
-// A word as a double word.
-pub(crate) fn long(x: u32) -> u64
-    ensures { (result ≡ x) × (result < 4294967296) }
-{
-    x as u64
-}
+ghost use Rattle.std.specs.Prelude.{◌<◌, ◌≤◌};
 
 // The number that follows.
 pub(crate) fn next(x: u32) -> u32 {
-    ((1664525 * long(x) + 1013904223) % 4294967296) as u32
+    x.wrapping_mul(1664525).wrapping_add(1013904223)
 }
 
 // A number below `end`, from the upper half of `x`.

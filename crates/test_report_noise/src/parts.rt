@@ -6,8 +6,8 @@ use crate::noise::{below, byte, next};
 
 // Sets a byte.
 fn put_byte(bytes: &mut [u8], at: usize, x: u8) {
-    if at < bytes.len() {
-        bytes[at] = x;
+    if let Some(byte) = bytes.get_mut(at) {
+        *byte = x;
     }
 }
 
@@ -15,20 +15,19 @@ fn put_byte(bytes: &mut [u8], at: usize, x: u8) {
 fn put_word(bytes: &mut [u8], at: usize, x: usize)
     requires { at ≤ 65536 }
 {
-    put_byte(bytes, at, (x % 256) as u8);
-    put_byte(bytes, at + 1, (x / 256 % 256) as u8);
-    put_byte(bytes, at + 2, (x / 65536 % 256) as u8);
-    put_byte(bytes, at + 3, (x / 16777216 % 256) as u8);
+    let [a, b, c, d] = ((x % 4294967296) as u32).to_le_bytes();
+    put_byte(bytes, at, a);
+    put_byte(bytes, at + 1, b);
+    put_byte(bytes, at + 2, c);
+    put_byte(bytes, at + 3, d);
 }
 
 // Fills all bytes with noise.
 pub(crate) fn fill(bytes: &mut [u8], seed: u32) -> u32 {
     let mut x = seed;
-    let mut i = 0;
-    while i < bytes.len() {
+    for place in bytes {
         x = next(x);
-        bytes[i] = byte(x);
-        i += 1;
+        *place = byte(x);
     }
     x
 }
@@ -46,10 +45,8 @@ fn put_word_if(bytes: &mut [u8], wanted: bool, at: usize, x: usize)
 fn put_words(bytes: &mut [u8], at: usize, words: &[usize], count: usize)
     requires { (at ≤ 1024) × (length words.now ≤ 8) }
 {
-    let mut i = 0;
-    while i < words.len() {
-        put_word_if(bytes, i < count, at + 4 * i, words[i]);
-        i += 1;
+    for (i, &word) in words.iter().enumerate() {
+        put_word_if(bytes, i < count, at + 4 * i, word);
     }
 }
 
@@ -66,12 +63,10 @@ pub(crate) fn put_flags(bytes: &mut [u8], n: usize, seed: u32) -> u32
     requires { n ≤ 6 }
 {
     let mut x = seed;
-    let mut d = 1;
     put_byte(bytes, 28 + 16 * n, 0);
-    while d < n {
+    for d in 1..n {
         x = next(x);
         put_byte(bytes, 28 + 16 * n + d, byte(x) / 128);
-        d += 1;
     }
     x
 }
@@ -82,10 +77,8 @@ pub(crate) fn put_darts(bytes: &mut [u8], n: usize, v: usize, seed: u32) -> u32
 {
     let x = next(seed);
     let first = 1 + below(x, n - v);
-    let mut j = 0;
-    while j < v {
+    for j in 0..v {
         put_word(bytes, 28 + 17 * n + 28 * j, first + j);
-        j += 1;
     }
     x
 }
@@ -106,12 +99,10 @@ pub(crate) fn spoil_coordinates(bytes: &mut [u8], n: usize, v: usize, seed: u32)
     requires { (n ≤ 6) × (v < n) }
 {
     let mut x = seed;
-    let mut i = 0;
-    while i < 3 * v {
+    for i in 0..3 * v {
         let at = 28 + 17 * n + 28 * (i / 3) + 4 + 8 * (i % 3);
         x = next(x);
         spoil_coordinate(bytes, at, x);
-        i += 1;
     }
     x
 }
@@ -129,11 +120,9 @@ pub(crate) fn put_rows(bytes: &mut [u8], n: usize, seed: u32) -> u32
     requires { (1 ≤ n) × (n ≤ 6) }
 {
     let mut x = seed;
-    let mut i = 0;
-    while i < 4 * n {
+    for i in 0..4 * n {
         x = next(x);
         put_word(bytes, 28 + 4 * i, any_image(i, n, below(x, 2 * n)));
-        i += 1;
     }
     x
 }
@@ -176,10 +165,8 @@ fn put_row(bytes: &mut [u8], n: usize, d: usize)
 fn put_ring(bytes: &mut [u8], n: usize)
     requires { n ≤ 6 }
 {
-    let mut d = 0;
-    while d < n {
+    for d in 0..n {
         put_row(bytes, n, d);
-        d += 1;
     }
 }
 
@@ -208,12 +195,13 @@ fn small_or_any(x: u8) -> u8 {
 pub(crate) fn overwrite(bytes: &mut [u8], seed: u32) -> u32 {
     let total = bytes.len();
     let mut x = next(seed);
-    let mut left = 1 + below(x, 3);
-    while 0 < left && 0 < total {
+    if total == 0 {
+        return x;
+    }
+    for _ in 0..1 + below(x, 3) {
         let place = next(x);
         x = next(place);
         put_byte(bytes, below(place, total), small_or_any(byte(x)));
-        left -= 1;
     }
     x
 }

@@ -1,60 +1,90 @@
 // What came of cases: by refusal, and a sum over every byte that the report would print.
-ghost use Rattle.std.specs.Prelude.{◌<◌};
-
-use crate::noise::long;
 use report_program::report_bytes;
 
+// What came of a case: its map was reported, or it was refused by the word or block of BadImage or by NotAMap; or any other, of which there must be none.
+#[derive(Clone, Copy, Debug, PartialEq, Eq)]
+pub enum Outcome {
+    Accepted,
+    BadImage(usize),
+    NotAMap,
+    Other,
+}
+
+// How often each outcome came.
+#[derive(Clone, Copy, Debug)]
+pub struct Counts {
+    pub accepted: u64,
+    pub bad_image: [u64; 9],
+    pub not_a_map: u64,
+    pub other: u64,
+}
+
+impl Counts {
+    // None has come yet.
+    pub const NONE: Counts = Counts {
+        accepted: 0,
+        bad_image: [0; 9],
+        not_a_map: 0,
+        other: 0,
+    };
+
+    // Counts an outcome.
+    pub fn count(&mut self, outcome: Outcome) {
+        match outcome {
+            Outcome::Accepted => one_more(&mut self.accepted),
+            Outcome::BadImage(word) => match self.bad_image.get_mut(word) {
+                Some(times) => one_more(times),
+                None => one_more(&mut self.other),
+            },
+            Outcome::NotAMap => one_more(&mut self.not_a_map),
+            Outcome::Other => one_more(&mut self.other),
+        }
+    }
+}
+
+// Counts one case more.
+fn one_more(times: &mut u64) {
+    *times = times.wrapping_add(1);
+}
+
 // What came of a case, and the sum behind it.
-#[derive(Clone, Copy)]
+#[derive(Clone, Copy, Debug)]
 pub struct Told {
-    pub outcome: usize,
+    pub outcome: Outcome,
     pub sum: u32,
 }
 
 // The sum with one byte more.
 fn with_byte(sum: u32, x: u8) -> u32 {
-    ((31 * long(sum) + x as u64) % 4294967291) as u32
+    ((31 * u64::from(sum) + u64::from(x)) % 4294967291) as u32
 }
 
 // The sum with all bytes of a text.
 fn with_text(sum: u32, text: &[u8]) -> u32 {
-    let mut s = sum;
-    let mut i = 0;
-    while i < text.len() {
-        s = with_byte(s, text[i]);
-        i += 1;
-    }
-    s
-}
-
-// A byte as a wider number.
-fn wide(x: u8) -> usize
-    ensures { result < 256 }
-{
-    x as usize
+    text.iter().fold(sum, |s, &x| with_byte(s, x))
 }
 
 // The outcome of a refusal by BadImage, from the digit of its word or block.
-fn bad_image(digit: u8) -> usize {
-    if digit < b'0' || b'8' < digit {
-        return 11;
+fn bad_image(digit: u8) -> Outcome {
+    match digit {
+        b'0'..=b'8' => Outcome::BadImage(usize::from(digit - b'0')),
+        _ => Outcome::Other,
     }
-    wide(digit - b'0') + 1
 }
 
-// The outcome that a report tells: 0 for `darts ..`, W + 1 for `refused 12 W ..`, 10 for `refused 3 ..`; 11 for any other, of which there must be none.
-fn outcome_of(text: &[u8]) -> usize {
+// The outcome that a report tells: `darts ..`, `refused 12 W ..` for BadImage, `refused 3 ..` for NotAMap.
+fn outcome_of(text: &[u8]) -> Outcome {
     if text.len() < 12 {
-        return 11;
+        return Outcome::Other;
     }
     if text[0] == b'd' {
-        return 0;
+        return Outcome::Accepted;
     }
     if text[8] == b'3' {
-        return 10;
+        return Outcome::NotAMap;
     }
     if text[8] != b'1' || text[9] != b'2' || text[10] != b' ' {
-        return 11;
+        return Outcome::Other;
     }
     bad_image(text[11])
 }

@@ -15,12 +15,12 @@ returns-then-k-found c = grew_same _ _ _ c.requires.2 _ _ c.requires.1.room _ _ 
 pub join_edge-requires : goal.join_edge-requires
 join_edge-requires c =
     let p = c.meet-k in
-    let e = ap (λ (w : OrbitPolicy). steps_by w c.args.steps.now) (sym c.in-Edge.is) ∙ c.requires.4 in (
+    let e = ap (λ (w : OrbitPolicy). steps_by w c.args.steps.codes.now) (sym c.in-Edge.is) ∙ c.args.steps.own in (
       scratch_same _ c.args.marks.now c.args.queue.now _ _ c.requires.0 p.auto.marks p.auto.queue,
       p.ensures.queue,
       c.requires.3,
-      edge_new c.args.rows.now c.args.steps.now c.args.d c.requires.2 c.args.queue.now c.args.found c.requires.1.room _ _ _ p.ensures
-          c.if-k-found.false c.requires.5 e c.requires.0.formed c.requires.3 c.requires.1.norep,
+      edge_new c.args.rows.list.now c.args.steps.codes.now c.args.d c.requires.2 c.args.queue.now c.args.found c.requires.1.room _ _ _ p.ensures
+          c.if-k-found.false c.requires.4 e c.args.rows.formed c.requires.3 c.requires.1.norep,
     )
 
 pub flood_forward-t-requires : goal.flood_forward-t-requires
@@ -29,30 +29,30 @@ flood_forward-t-requires c =
       scratch_same _ c.args.marks.now c.args.queue.now _ _ c.requires.0 p.auto.marks p.auto.queue,
       p.ensures.queue,
       p.ensures.more,
-      grown_there _ _ _ _ _ _ _ p.ensures c.requires.6,
+      grown_there _ _ _ _ _ _ _ p.ensures c.requires.5,
     )
 
 pub returns-then-t : goal.returns-then-t
 returns-then-t c =
-    let e = ap (λ (w : OrbitPolicy). steps_by w c.args.steps.now) (sym c.in-Volume.is) ∙ c.requires.4 in
-    grew_again _ _ _ c.requires.2 _ _ c.requires.1.room _ _ _ c.meet-k.ensures c.if-k-found.false c.requires.5 c.requires.0.formed.below
-    c.requires.3 _ c.requires.0.marks_n c.requires.1 c.requires.0.formed e _ _ _ c.flood_forward-t.ensures.0 _ _ _ c.flood.ensures
+    let e = ap (λ (w : OrbitPolicy). steps_by w c.args.steps.codes.now) (sym c.in-Volume.is) ∙ c.args.steps.own in
+    grew_again _ _ _ c.requires.2 _ _ c.requires.1.room _ _ _ c.meet-k.ensures c.if-k-found.false c.requires.4 c.args.rows.formed.below
+    c.requires.3 _ c.requires.0.marks_n c.requires.1 c.args.rows.formed e _ _ _ c.flood_forward-t.ensures.0 _ _ _ c.flood.ensures
 
 pub returns-in-Edge : goal.returns-in-Edge
 returns-in-Edge c =
-    let e = ap (λ (w : OrbitPolicy). steps_by w c.args.steps.now) (sym c.in-Edge.is) ∙ c.requires.4 in
-    grew_edge _ _ _ c.requires.2 _ _ c.requires.1.room _ _ _ c.meet-k.ensures c.if-k-found.false c.requires.5 e c.requires.0.formed c.requires.3 _ _ _
+    let e = ap (λ (w : OrbitPolicy). steps_by w c.args.steps.codes.now) (sym c.in-Edge.is) ∙ c.args.steps.own in
+    grew_edge _ _ _ c.requires.2 _ _ c.requires.1.room _ _ _ c.meet-k.ensures c.if-k-found.false c.requires.4 e c.args.rows.formed c.requires.3 _ _ _
     c.join_edge.ensures
 
 pub returns-else-t : goal.returns-else-t
 returns-else-t c =
     let t = c.flood_forward-t in
-    let e = ap (λ (w : OrbitPolicy). steps_by w c.args.steps.now) (sym c.in-Volume.is) ∙ c.requires.4 in
-    grew_forward _ _ _ c.requires.2 _ _ c.requires.1.room _ _ _ c.meet-k.ensures c.if-k-found.false c.requires.5 c.requires.0.formed.below
-    c.requires.3 _ c.requires.0.marks_n c.requires.1 c.requires.0.formed e _ _ _ t.ensures.0
+    let e = ap (λ (w : OrbitPolicy). steps_by w c.args.steps.codes.now) (sym c.in-Volume.is) ∙ c.args.steps.own in
+    grew_forward _ _ _ c.requires.2 _ _ c.requires.1.room _ _ _ c.meet-k.ensures c.if-k-found.false c.requires.4 c.args.rows.formed.below
+    c.requires.3 _ c.requires.0.marks_n c.requires.1 c.args.rows.formed e _ _ _ t.ensures.0
     (not_ended _ _ _ _ (length-take-le _ _ t.ensures.0.queue.room) (sym t.ensures.1 ∙ c.if-t.false))
 
 pub returns-in_default : goal.returns-in_default
 returns-in_default c =
-    grew_flood _ _ _ c.requires.2 _ _ c.requires.1.room _ _ _ c.meet-k.ensures c.if-k-found.false c.requires.5 c.requires.0.formed.below
+    grew_flood _ _ _ c.requires.2 _ _ c.requires.1.room _ _ _ c.meet-k.ensures c.if-k-found.false c.requires.4 c.args.rows.formed.below
     c.requires.3 _ c.requires.0.marks_n c.requires.1 _ _ _ c.flood-in_default.ensures

@@ -10,4 +10,4 @@ pub returns-then-bytes-at-eq0 : goal.returns-then-bytes-at-eq0
 returns-then-bytes-at-eq0 c = stored_used _ _ _ (c.flag_offset.result + c.args.d) (omega arith) (omega arith) (omega arith)
 
 pub returns : goal.returns
-returns c = ap not c.free_at.ensures ∙ stored_bound _ _ _ (c.flag_offset.result + c.args.d) (omega arith) (omega arith) (omega arith) c.requires.3 (omega arith)
+returns c = ap not c.free_at.ensures ∙ stored_bound _ _ _ (c.flag_offset.result + c.args.d) (omega arith) (omega arith) (omega arith) c.requires.2 (omega arith)

@@ -1,8 +1,6 @@
--- `long_at` meets its contract: the low word, then the high one. Assumes nothing.
-use Rattle.image_words.specs.Words.{word64}
-use borrow.Author.Rules.{rules}
+-- `long_at` meets its contract: what std says of its bytes. Assumes nothing.
+use Rattle.image_words.proofs.Worth.{long_of}
 use Rattle.image_words.proofs.long_at.Goals as goal
 
 pub returns : goal.returns
-unfolding word64
-returns c = search rules
+returns c = long_of _ _ c.array_at.ensures c.from_le_bytes.ensures

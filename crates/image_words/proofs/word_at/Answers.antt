@@ -1,8 +1,6 @@
--- `word_at` meets its contract: the four bytes, each at its worth. Assumes nothing.
-use Rattle.image_words.specs.Words.{word32}
-use borrow.Author.Rules.{rules}
+-- `word_at` meets its contract: what std says of its bytes. Assumes nothing.
+use Rattle.image_words.proofs.Worth.{word_of}
 use Rattle.image_words.proofs.word_at.Goals as goal
 
 pub returns : goal.returns
-unfolding word32
-returns c = search rules
+returns c = word_of _ _ c.array_at.ensures c.from_le_bytes.ensures

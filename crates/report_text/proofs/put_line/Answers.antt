@@ -1,17 +1,18 @@
 -- `put_line` meets its contract: its parts one behind the other. Assumes nothing.
 use native.Mathlib.Omega.{arith}
+use lib.ListN.{length}
 use Rattle.report_text.proofs.TextLaws.{lay_next, line_length, line_is}
 use Rattle.report_text.proofs.put_line.Goals as goal
 
 pub put_bytes-a-requires : goal.put_bytes-a-requires
-put_bytes-a-requires c = omega (arith, c.requires.1, line_length c.args.name.now c.args.list.now c.args.count)
+put_bytes-a-requires c = omega (arith, c.requires, line_length c.args.name.now c.args.list.now (length c.args.list.now))
 
 pub put_byte-b-requires : goal.put_byte-b-requires
 put_byte-b-requires c =
     omega (
       arith,
-      c.requires.1,
-      line_length c.args.name.now c.args.list.now c.args.count,
+      c.requires,
+      line_length c.args.name.now c.args.list.now (length c.args.list.now),
       lay_next _ _ _ _ _ c.put_bytes-a.ensures,
       c.put_bytes-a.auto.out,
     )
@@ -20,8 +21,8 @@ pub put_number-c-requires : goal.put_number-c-requires
 put_number-c-requires c =
     omega (
       arith,
-      c.requires.1,
-      line_length c.args.name.now c.args.list.now c.args.count,
+      c.requires,
+      line_length c.args.name.now c.args.list.now (length c.args.list.now),
       lay_next _ _ _ _ _ c.put_bytes-a.ensures,
       c.put_bytes-a.auto.out,
       lay_next _ _ _ _ _ c.put_byte-b.ensures,
@@ -32,8 +33,8 @@ pub put_byte-d-requires : goal.put_byte-d-requires
 put_byte-d-requires c =
     omega (
       arith,
-      c.requires.1,
-      line_length c.args.name.now c.args.list.now c.args.count,
+      c.requires,
+      line_length c.args.name.now c.args.list.now (length c.args.list.now),
       lay_next _ _ _ _ _ c.put_bytes-a.ensures,
       c.put_bytes-a.auto.out,
       lay_next _ _ _ _ _ c.put_byte-b.ensures,
@@ -43,29 +44,27 @@ put_byte-d-requires c =
     )
 
 pub put_items-e-requires : goal.put_items-e-requires
-put_items-e-requires c = (
-  c.requires.0,
-  omega (
-    arith,
-    c.requires.1,
-    line_length c.args.name.now c.args.list.now c.args.count,
-    lay_next _ _ _ _ _ c.put_bytes-a.ensures,
-    c.put_bytes-a.auto.out,
-    lay_next _ _ _ _ _ c.put_byte-b.ensures,
-    c.put_byte-b.auto.out,
-    lay_next _ _ _ _ _ c.put_number-c.ensures,
-    c.put_number-c.auto.out,
-    lay_next _ _ _ _ _ c.put_byte-d.ensures,
-    c.put_byte-d.auto.out,
-  ),
-)
+put_items-e-requires c =
+    omega (
+      arith,
+      c.requires,
+      line_length c.args.name.now c.args.list.now (length c.args.list.now),
+      lay_next _ _ _ _ _ c.put_bytes-a.ensures,
+      c.put_bytes-a.auto.out,
+      lay_next _ _ _ _ _ c.put_byte-b.ensures,
+      c.put_byte-b.auto.out,
+      lay_next _ _ _ _ _ c.put_number-c.ensures,
+      c.put_number-c.auto.out,
+      lay_next _ _ _ _ _ c.put_byte-d.ensures,
+      c.put_byte-d.auto.out,
+    )
 
 pub put_byte-requires : goal.put_byte-requires
 put_byte-requires c =
     omega (
       arith,
-      c.requires.1,
-      line_length c.args.name.now c.args.list.now c.args.count,
+      c.requires,
+      line_length c.args.name.now c.args.list.now (length c.args.list.now),
       lay_next _ _ _ _ _ c.put_bytes-a.ensures,
       c.put_bytes-a.auto.out,
       lay_next _ _ _ _ _ c.put_byte-b.ensures,
@@ -80,6 +79,6 @@ put_byte-requires c =
 
 pub returns : goal.returns
 returns c =
-    line_is c.args.name.now c.args.list.now c.args.count _ _ _ _ _ _ _ _ _ _ _ _ _ _ c.requires.1
+    line_is c.args.name.now c.args.list.now (length c.args.list.now) _ _ _ _ _ _ _ _ _ _ _ _ _ _ c.requires
     c.put_bytes-a.ensures c.put_byte-b.ensures c.put_number-c.ensures c.put_byte-d.ensures
     c.put_items-e.ensures c.put_byte.ensures

@@ -1,9 +1,7 @@
--- `plan::write_entry` meets its contract: its six stores are the entry's numbers, one behind another. Assumes nothing.
+-- `plan::write_entry` meets its contract: the entry's numbers are written over its places. Assumes nothing.
+use mathlib.Core.Path.{◌∙◌}
 use Rattle.sew_plan.proofs.PlanLaws.{entry_stored}
-use borrow.Author.Rules.{rules}
 use Rattle.sew_plan.proofs.write_entry.Goals as goal
 
 pub returns : goal.returns
-returns c =
-    let a = c.args in
-    entry_stored a.plan.now a.at a.e c.code.result c.code.ensures (search rules)
+returns c = entry_stored c.args.plan.now c.args.at c.args.e _ (c.copy_from_slice.ensures.after ∙ c.from-words.ensures)

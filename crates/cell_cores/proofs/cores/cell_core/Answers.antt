@@ -3,4 +3,4 @@ use Rattle.cell_steps.proofs.SizeLaws.{cell_null}
 use Rattle.cell_cores.proofs.cores.cell_core.Goals as goal
 
 pub returns-then-d-eq0-clause-value : goal.returns-then-d-eq0-clause-value
-returns-then-d-eq0-clause-value c = cell_null c.args.class c.args.rows.now c.requires.0 _ c.if-d-eq0.true
+returns-then-d-eq0-clause-value c = cell_null c.args.class c.args.rows.list.now c.args.rows.formed _ c.if-d-eq0.true

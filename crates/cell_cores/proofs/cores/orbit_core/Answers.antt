@@ -16,8 +16,6 @@ flood-count-requires c =
       scratch_same _ m o _ _ c.requires.0 (length-set m d 1) (length-set o 0 d),
       seeded d m o (omega (arith, c.requires.0.marks_n, c.requires.1)) (omega (arith, c.requires.0.marks_n, c.requires.0.queue_n)) c.requires.2,
       zero-le,
-      c.requires.3,
-      c.requires.4,
     )
 
 pub returns : goal.returns
@@ -29,5 +27,5 @@ returns c =
     let k = c.clear in (
       cleared_all m f.new.marks f.new.out k.new.marks f.result c.requires.2 (f.auto.marks ∙ length-set m d 1)
           k.auto.marks f.ensures.queue k.ensures,
-      flooded _ _ d o _ _ _ (omega (arith, c.requires.0.queue_n, c.requires.0.formed.sized.some)) f.ensures,
+      flooded _ _ d o _ _ _ (omega (arith, c.requires.0.queue_n, c.args.rows.formed.sized.some)) f.ensures,
     )

@@ -5,7 +5,7 @@ use Rattle.cell_edges.proofs.CoreLaws.{Going}
 use Rattle.cell_edges.proofs.edges.walk_arm.Given as goal
 
 abbrev pub invariant-loop-x : goal.invariant-loop-x
-invariant-loop-x l = Going l.rows l.i l.d l.least l.count l.low l.met l.by l.x
+invariant-loop-x l = Going l.rows.list.now l.i l.d l.fn.before.least l.fn.before.count l.met.least l.met.count l.by l.x
 
 abbrev pub decreases-loop-x : goal.decreases-loop-x
-decreases-loop-x l = (darts l.rows + l.count) - l.met
+decreases-loop-x l = (darts l.rows.list.now + l.fn.before.count) - l.met.count

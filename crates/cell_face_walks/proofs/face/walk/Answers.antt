@@ -2,15 +2,18 @@
 use mathlib.Core.Logic.{inl, inr}
 use Rattle.cell_faces.proofs.LegLaws.{walked_one, walked_two}
 use Rattle.cell_face_walks.proofs.face.walk.Goals as goal
-use Rattle.cell_face_walks.proofs.face.walk.Goals.{then-l-ne0+else-r-ne0, else-l-ne0}
+use Rattle.cell_face_walks.proofs.face.walk.Goals.{else-one-ne0-via-then-one-ne0+else-one-ne0-2, else-one-ne0-via-else-one-ne0}
 
-pub returns-then-r-ne0 : goal.returns-then-r-ne0
-returns-then-r-ne0 c =
-    walked_one c.args.rows.now _ c.args.d _ _ c.beta_at-b.ensures c.lower-low.ensures _ _ _ _ _ _ _ _ c.leg-one.ensures
-    c.if-l-ne0.true c.if-r-ne0.true
+pub returns-then-one-ne0-2 : goal.returns-then-one-ne0-2
+returns-then-one-ne0-2 c =
+    walked_one c.args.rows.list.now _ c.args.d _ _ c.beta-b.ensures c.lower.ensures _ _ _ _ _ _ _ _ c.leg-one.ensures
+    c.if-one-ne0.true c.if-one-ne0-2.true
 
 pub returns : goal.returns
 returns c =
-    walked_two c.args.rows.now _ c.args.d _ _ c.beta_at-b.ensures c.lower-low.ensures _ _ _ _ _ _ _ _ c.leg-one.ensures
-    (elim c.if-l-ne0.branch [ then-l-ne0+else-r-ne0 w ↦ inr w.if-r-ne0.false | else-l-ne0 w ↦ inl w.if-l-ne0.false ])
-    _ _ c.beta_at-bl.ensures c.beta_at-br.ensures _ _ _ _ _ _ c.leg.ensures
+    walked_two c.args.rows.list.now _ c.args.d _ _ c.beta-b.ensures c.lower.ensures _ _ _ _ _ _ _ _ c.leg-one.ensures
+    (elim c.else-one-ne0.branch [
+      | else-one-ne0-via-then-one-ne0+else-one-ne0-2 w ↦ inr w.if-one-ne0-2.false
+      | else-one-ne0-via-else-one-ne0 w ↦ inl w.if-one-ne0.false
+    ])
+    _ _ c.beta.ensures c.beta-2.ensures _ _ _ _ _ _ c.leg.ensures

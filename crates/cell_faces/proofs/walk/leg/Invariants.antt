@@ -4,8 +4,8 @@ use Rattle.map_betas.specs.Betas.{darts}
 use Rattle.cell_faces.proofs.LegLaws.{Walking}
 use Rattle.cell_faces.proofs.walk.leg.Given as goal
 
-abbrev pub invariant-loop-k : goal.invariant-loop-k
-invariant-loop-k l = Walking l.rows l.i l.j l.initial.marks l.initial.queue l.initial.k l.initial.l l.initial.r l.initial.low l.marks l.queue l.k l.l l.r l.low
+abbrev pub invariant-loop-at : goal.invariant-loop-at
+invariant-loop-at l = Walking l.rows.list.now l.i l.j l.initial.marks l.initial.queue l.initial.at.k l.initial.at.l l.initial.at.r l.initial.at.low l.marks l.queue l.at.k l.at.l l.at.r l.at.low
 
-abbrev pub decreases-loop-k : goal.decreases-loop-k
-decreases-loop-k l = darts l.rows - l.k
+abbrev pub decreases-loop-at : goal.decreases-loop-at
+decreases-loop-at l = darts l.rows.list.now - l.at.k

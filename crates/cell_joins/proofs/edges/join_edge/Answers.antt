@@ -8,12 +8,12 @@ use Rattle.cell_joins.proofs.edges.join_edge.Goals as goal
 pub follow_arm-first-requires : goal.follow_arm-first-requires
 follow_arm-first-requires c =
     let a = c.args in
-    (c.requires.0, c.requires.1, c.requires.2, Memᴰ.head refl, first_new a.rows.now a.d a.queue.now a.k c.requires.3)
+    (c.requires.0, c.requires.1, c.requires.2, Memᴰ.head refl, first_new a.rows.list.now a.d a.queue.now a.k c.requires.3)
 
 pub returns-then-first-ne0 : goal.returns-then-first-ne0
 returns-then-first-ne0 c =
     let a = c.follow_arm-first.ensures in
-    joined_round c.args.rows.now c.args.d c.args.queue.now c.args.k c.requires.3 _ _ _ a.0 _ a.1 c.if-first-ne0.true
+    joined_round c.args.rows.list.now c.args.d c.args.queue.now c.args.k c.requires.3 _ _ _ a.0 _ a.1 c.if-first-ne0.true
 
 pub follow_arm-second-requires : goal.follow_arm-second-requires
 follow_arm-second-requires c =
@@ -22,12 +22,12 @@ follow_arm-second-requires c =
       a.ensures.0.queue,
       c.requires.2,
       Memᴰ.tail (Memᴰ.head refl),
-      second_new c.args.rows.now c.args.d c.args.queue.now c.args.k c.requires.3 _ _ _ a.ensures.0 _
+      second_new c.args.rows.list.now c.args.d c.args.queue.now c.args.k c.requires.3 _ _ _ a.ensures.0 _
           a.ensures.1 c.if-first-ne0.false,
     )
 
 pub returns : goal.returns
 returns c =
     let a = c.follow_arm-first.ensures in
-    joined_open c.args.rows.now c.args.d c.args.queue.now c.args.k c.requires.3 _ _ _ a.0 _ a.1
+    joined_open c.args.rows.list.now c.args.d c.args.queue.now c.args.k c.requires.3 _ _ _ a.0 _ a.1
     c.if-first-ne0.false _ _ _ c.follow_arm-second.ensures.0

@@ -11,7 +11,7 @@ use Rattle.cell_steps.proofs.TurnLaws.{flooding_starts, flooding_turn, flooding_
 use Rattle.cell_steps.proofs.ScratchLaws.{scratch_same}
 use Rattle.cell_joins.proofs.VolumeLaws.{ahead_starts, ahead_visit, ahead_ends}
 use Rattle.cell_joins.proofs.volumes.flood_forward.Goals as goal
-use Rattle.cell_joins.proofs.volumes.flood_forward.Goals.{then-beta_at-eq0, else-beta_at-eq0}
+use Rattle.cell_joins.proofs.volumes.flood_forward.Goals.{then-beta-eq0, else-beta-eq0}
 
 pub loop-k-init : goal.loop-k-init
 loop-k-init c = (
@@ -23,14 +23,14 @@ loop-k-init c = (
 )
 
 -- the dart at k is below the number of darts
-pub beta_at-requires : goal.beta_at-requires
-beta_at-requires c =
-    let below : get_or c.loop-k.queue c.loop-k.k 0 < darts c.args.rows.now = dart_below _ _ c.args.marks.now c.args.queue.now _ _ c.requires.0.marks_n _ _ _ _ c.loop-k.invariant.0 c.loop-k-test.true in
-    omega (arith, c.requires.0.formed.sized.whole)
+pub beta-requires : goal.beta-requires
+beta-requires c =
+    let below : get_or c.loop-k.queue c.loop-k.k 0 < darts c.args.rows.list.now = dart_below _ _ c.args.marks.now c.args.queue.now _ _ c.requires.0.marks_n _ _ _ _ c.loop-k.invariant.0 c.loop-k-test.true in
+    omega (arith, c.args.rows.formed.sized.whole)
 
 pub visit_forward-count-requires : goal.visit_forward-count-requires
 visit_forward-count-requires c =
-    let below : get_or c.loop-k.queue c.loop-k.k 0 < darts c.args.rows.now = dart_below _ _ c.args.marks.now c.args.queue.now _ _ c.requires.0.marks_n _ _ _ _ c.loop-k.invariant.0 c.loop-k-test.true in
+    let below : get_or c.loop-k.queue c.loop-k.k 0 < darts c.args.rows.list.now = dart_below _ _ c.args.marks.now c.args.queue.now _ _ c.requires.0.marks_n _ _ _ _ c.loop-k.invariant.0 c.loop-k-test.true in
     let l = c.loop-k in (
       scratch_same _ c.args.marks.now c.args.queue.now _ _ c.requires.0 l.invariant.0.marks_n l.invariant.0.out_n,
       l.invariant.0.queue,
@@ -52,9 +52,9 @@ loop-k-preserved c =
       flooding_turn _ _ c.args.marks.now c.args.queue.now _ _ c.requires.0.marks_n _ _ _ _ l.invariant.0 _ _ _
           c.loop-k-test.true v.auto.marks v.auto.queue v.ensures,
       ahead_visit _ _ _ _ _ l.invariant.3 c.loop-k-test.true l.invariant.0.queue.room _ _ _ v.ensures _ _ l.invariant.1
-          (elim c.if-beta_at-eq0.branch [
-            | then-beta_at-eq0 p ↦ inl (sym c.beta_at.ensures ∙ p.if-beta_at-eq0.true, p.ends-is)
-            | else-beta_at-eq0 p ↦ inr (λ z. p.if-beta_at-eq0.false (c.beta_at.ensures ∙ z), p.ends-is)
+          (elim c.if-beta-eq0.branch [
+            | then-beta-eq0 p ↦ inl (sym c.beta.ensures ∙ p.if-beta-eq0.true, p.ends-is)
+            | else-beta-eq0 p ↦ inr (λ z. p.if-beta-eq0.false (c.beta.ensures ∙ z), p.ends-is)
           ]),
       rw v.ensures.front (ext_in (visit_ext _ _ volume_linear _) l.invariant.2),
       omega (arith, l.invariant.3),

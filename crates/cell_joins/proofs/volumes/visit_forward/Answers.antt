@@ -8,10 +8,10 @@ pub meet-requires : goal.meet-requires
 meet-requires c =
     let p = c.meet-k in (
       p.ensures.queue,
-      rw c.beta_at-y.ensures (omega (arith, c.requires.0.marks_n, p.auto.marks, c.requires.0.formed.below 2 c.args.d)),
+      rw c.beta-y.ensures (omega (arith, c.requires.0.marks_n, p.auto.marks, c.args.rows.formed.below 2 c.args.d)),
       omega (arith, p.auto.marks, p.auto.queue, c.requires.0.marks_n, c.requires.0.queue_n),
       grown_there _ _ _ _ _ _ _ p.ensures c.requires.3,
     )
 
 pub returns : goal.returns
-returns c = visited_forward _ _ _ _ _ _ c.beta_at-x.ensures c.beta_at-y.ensures _ _ _ c.meet-k.ensures _ _ _ c.meet.ensures
+returns c = visited_forward _ _ _ _ _ _ c.beta-x.ensures c.beta-y.ensures _ _ _ c.meet-k.ensures _ _ _ c.meet.ensures

@@ -1,42 +1,28 @@
 -- `orbits::orbit` meets its contract: refused by the guard, or the orbit under the policy's steps. Assumes nothing.
-use Rattle.std.specs.Prelude.{◌≡◌, ℕ, true, List}
+use Rattle.std.specs.Prelude.{List, ℕ, is_ok}
 use mathlib.Core.Path.{sym, ap, ◌∙◌}
-use Rattle.map_betas.specs.declared.loans.Loans.{Loans}
-use Rattle.map_betas.specs.Answers.{is_done}
-use Rattle.map_betas.specs.Guards.{guard_of}
 use Rattle.map_betas.proofs.AnswerLaws.{behind_refused, behind_done}
-use Rattle.cell_steps.specs.Calls.{orbit_guard, orbit_done, orbit_call}
-use Rattle.cell_steps.proofs.StepLaws.{steps_are, codes_fit, policy_by}
-use Rattle.cell_steps.proofs.CallLaws.{orbit_ready}
+use Rattle.map_betas.proofs.GuardLaws.{ready}
+use Rattle.cell_steps.specs.Calls.{orbit_done, orbit_call}
 use Rattle.cell_orbits.proofs.orbits.orbit.Goals as goal
-use Rattle.cell_orbits.proofs.orbits.orbit.Goals.{After-guard-g, Else-not-is_done}
 
-guarded : (c : After-guard-g) →
-    let args = c.args in
-    c.guard-g.result ≡ orbit_guard args.rows.now args.marks.now args.output.now args.flags.now args.d
-guarded c =
-    c.guard-g.ensures ∙ ap (λ (l : Loans). guard_of c.args.rows.now c.args.flags.now l 0 c.args.d c.args.d)
-    c.orbit_loans.ensures
-
-passed : (c : Else-not-is_done) → is_done c.guard-g.result ≡ true
-passed c =
-    sym c.is_done.ensures ∙ c.if-not-is_done.false
-
-pub returns-then-not-is_done : goal.returns-then-not-is_done
+pub returns-in_err-orbit_guard : goal.returns-in_err-orbit_guard
 unfolding orbit_call
-returns-then-not-is_done c = behind_refused c.guard-g.result _ (guarded (goal.at.returns-then-not-is_done c).After-guard-g) _ _ (sym c.is_done.ensures ∙ c.if-not-is_done.true)
+returns-in_err-orbit_guard c = behind_refused c.orbit_guard.ensures _ _ _ c.in_err-orbit_guard.was c.from_residual.ensures.1
+
+pub invariant_of-list_orbit : goal.invariant_of-list_orbit
+invariant_of-list_orbit c =
+    let r = ready _ _ _ _ _ _ (ap is_ok (sym c.orbit_guard.ensures ∙ c.in_ok-orbit_guard.was)) in
+    record { formed = r.map.formed }
 
 pub list_orbit-requires : goal.list_orbit-requires
 list_orbit-requires c =
-    let e = (codes_fit c.args.policy _ c.steps_of-s.ensures).1 in
-    let r = orbit_ready c.args.rows.now c.args.marks.now c.args.output.now c.args.flags.now c.args.d _
-    (guarded (goal.at.list_orbit-requires c).After-guard-g) (passed (goal.at.list_orbit-requires c).Else-not-is_done) in
-    (r.map.formed, rw e (steps_are c.args.policy), r.lent.marks, r.lent.output, r.left.below, policy_by c.args.policy _ e)
+    let r = ready _ _ _ _ _ _ (ap is_ok (sym c.orbit_guard.ensures ∙ c.in_ok-orbit_guard.was)) in
+    (r.lent.marks, r.lent.output, r.left.below)
 
 pub returns : goal.returns
 unfolding orbit_call
 returns c =
     c.list_orbit.ensures
-    ∙ ap (λ (steps : List ℕ). orbit_done c.args.rows.now c.args.marks.now c.args.output.now steps c.args.d)
-    (codes_fit c.args.policy _ c.steps_of-s.ensures).1
-    ∙ behind_done c.guard-g.result _ (guarded (goal.at.returns c).After-guard-g) _ _ (passed (goal.at.returns c).Else-not-is_done)
+    ∙ ap (λ (steps : List ℕ). orbit_done c.args.rows.now c.args.marks.now c.args.output.now steps c.args.d) c.steps_of.ensures.1
+    ∙ behind_done c.orbit_guard.ensures _ _ c.in_ok-orbit_guard.was

@@ -5,7 +5,7 @@ use Rattle.cell_faces.proofs.DartLaws.{Testing}
 use Rattle.cell_rounds.proofs.rounds.is_regular.Given as goal
 
 abbrev pub invariant-loop-d : goal.invariant-loop-d
-invariant-loop-d l = Testing l.rows l.d l.x
+invariant-loop-d l = Testing l.rows.list.now l.d l.x
 
 abbrev pub decreases-loop-d : goal.decreases-loop-d
-decreases-loop-d l = ahead l.rows l.d l.x
+decreases-loop-d l = ahead l.rows.list.now l.d l.x

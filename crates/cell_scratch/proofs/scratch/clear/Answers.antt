@@ -1,24 +1,18 @@
--- `scratch::clear` meets its contract: after i turns the marks of the first i darts are 0. Assumes nothing.
-use mathlib.Core.Path.{refl, ◌∙◌}
-use Prim.Native.Nat.{◌<◌}
+-- `scratch::clear` meets its contract: the marks of the darts that the loop has gone by are 0. Assumes nothing.
 use native.Mathlib.Omega.{arith}
-use lib.ListN.{length, get_or, length-set}
-use Rattle.cell_steps.proofs.QueueLaws.{cleared_none, cleared_step, take_below}
+use Rattle.cell_steps.proofs.Lists.{in_at}
+use Rattle.cell_steps.proofs.QueueLaws.{cleared_none, cleared_step}
 use Rattle.cell_scratch.proofs.scratch.clear.Goals as goal
 
-pub loop-i-init : goal.loop-i-init
-loop-i-init c = (omega arith, refl, cleared_none _)
+pub loop-x-init : goal.loop-x-init
+loop-x-init c = cleared_none _
 
 -- the dart whose mark is cleared is below the marks' length
-pub bounds-marks-at : goal.bounds-marks-at
-bounds-marks-at c =
-    let h = take_below _ _ _ c.loop-i.i c.requires.0 c.requires.1 c.loop-i-test.true in
-    omega (arith, c.loop-i.invariant.1)
+pub bounds-marks-x : goal.bounds-marks-x
+bounds-marks-x c = omega (arith, c.requires _ (in_at _ _ c.loop-x-test.true))
 
-pub loop-i-preserved : goal.loop-i-preserved
-loop-i-preserved c =
-    let l = c.loop-i in
-    let i : l.i < length c.args.list.now = omega arith in
-    let h = take_below _ _ _ l.i c.requires.0 c.requires.1 c.loop-i-test.true in
-    let dart : get_or c.args.list.now l.i 0 < length l.marks = omega (arith, l.invariant.1) in
-    (omega arith, length-set l.marks _ _ ∙ l.invariant.1, cleared_step _ _ _ l.i i dart l.invariant.2)
+pub loop-x-preserved : goal.loop-x-preserved
+loop-x-preserved c =
+    let l = c.loop-x in
+    let dart = c.requires _ (in_at c.args.list.now l.x-index c.loop-x-test.true) in
+    cleared_step c.args.list.now _ l.marks l.x-index c.loop-x-test.true (omega (arith, dart)) l.invariant

@@ -11,8 +11,6 @@ visit-count-requires c =
       scratch_same _ c.args.marks.now c.args.out.now _ _ c.requires.0 l.invariant.marks_n l.invariant.out_n,
       l.invariant.queue,
       dart_below _ _ c.args.marks.now c.args.out.now _ _ c.requires.0.marks_n _ _ _ _ l.invariant c.loop-k-test.true,
-      c.requires.3,
-      c.requires.4,
     )
 
 pub loop-k-smaller : goal.loop-k-smaller

@@ -7,10 +7,10 @@ use Rattle.cell_visits.proofs.visits.vertex_images.Goals as goal
 pub returns : goal.returns
 unfolding image
 returns c = (
-  c.beta_at-b12.ensures ∙ ap (beta c.args.rows.now 1) c.beta_at-b2.ensures,
-  c.beta_at-b20.ensures ∙ ap (beta c.args.rows.now 2) c.beta_at-b0.ensures,
-  c.beta_at-b13.ensures ∙ ap (beta c.args.rows.now 1) c.beta_at-b3.ensures,
-  c.beta_at-b30.ensures ∙ ap (beta c.args.rows.now 3) c.beta_at-b0.ensures,
-  c.beta_at-b23.ensures ∙ ap (beta c.args.rows.now 2) c.beta_at-b3.ensures,
-  c.beta_at-b32.ensures ∙ ap (beta c.args.rows.now 3) c.beta_at-b2.ensures,
+  c.beta-b12.ensures ∙ ap (beta c.args.rows.list.now 1) c.beta-b2.ensures,
+  c.beta-b20.ensures ∙ ap (beta c.args.rows.list.now 2) c.beta-b0.ensures,
+  c.beta-b13.ensures ∙ ap (beta c.args.rows.list.now 1) c.beta-b3.ensures,
+  c.beta-b30.ensures ∙ ap (beta c.args.rows.list.now 3) c.beta-b0.ensures,
+  c.beta-b23.ensures ∙ ap (beta c.args.rows.list.now 2) c.beta-b3.ensures,
+  c.beta-b32.ensures ∙ ap (beta c.args.rows.list.now 3) c.beta-b2.ensures,
 )

@@ -1,11 +1,8 @@
 -- `blocks::records_good` meets its contract. The loop's invariant: what the records still to come say is what all of them say. Assumes nothing.
 use mathlib.Core.Path.{◌≡◌}
-use Prim.Native.Nat.{◌+◌, ◌*◌, ◌-◌, ◌≤◌}
+use Prim.Native.Nat.{◌+◌, ◌*◌, ◌-◌}
 use Rattle.image_form.specs.Tests.{records_good}
 use Rattle.image_checks.proofs.blocks.records_good.Given as goal
 
 abbrev pub invariant-loop-k : goal.invariant-loop-k
-invariant-loop-k l = (l.k ≤ l.v) × (l.at ≡ l.from + 28 * l.k) × (records_good l.v l.bytes l.n l.from 0 ≡ records_good (l.v - l.k) l.bytes l.n l.at l.last)
-
-abbrev pub decreases-loop-k : goal.decreases-loop-k
-decreases-loop-k l = l.v - l.k
+invariant-loop-k l = records_good l.v l.bytes l.n l.from 0 ≡ records_good (l.v - l.k) l.bytes l.n (l.from + 28 * l.k) l.last

@@ -1,6 +1,6 @@
 -- `points::put_points` meets its contract. The loop's invariant: the records so far are laid. Assumes nothing.
 use mathlib.Core.Path.{◌≡◌}
-use Prim.Native.Nat.{◌+◌, ◌*◌, ◌-◌, ◌<◌}
+use Prim.Native.Nat.{◌+◌, ◌*◌, ◌-◌}
 use lib.ListN.{length}
 use lib.Seq.{sets}
 use Rattle.image_store.specs.Stores.{stored_each}
@@ -9,8 +9,5 @@ use Rattle.image_points.proofs.points.put_points.Given as goal
 
 abbrev pub invariant-loop-d : goal.invariant-loop-d
 invariant-loop-d l =
-    (l.d < l.n) × (length l.bytes ≡ length l.initial.bytes) × (l.at ≡ l.from + 28 * length (points l.vertices l.d))
-    × (l.bytes ≡ sets l.initial.bytes l.from (stored_each (record_bytes l.coordinates) (points l.vertices l.d)))
-
-abbrev pub decreases-loop-d : goal.decreases-loop-d
-decreases-loop-d l = l.n - l.d
+    (l.at ≡ l.from + 28 * length (points l.vertices (l.d - 1)))
+    × (l.bytes ≡ sets l.initial.bytes l.from (stored_each (record_bytes l.coordinates) (points l.vertices (l.d - 1))))

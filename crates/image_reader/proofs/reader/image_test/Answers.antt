@@ -1,45 +1,45 @@
 -- `reader::image_test` meets its contract: the first of the tests that refuses. Assumes nothing.
 use native.Mathlib.Omega.{arith}
-use mathlib.Core.Path.{◌≡◌, sym, ap, ◌∙◌}
-use mathlib.Core.Bool.{true}
-use Rattle.map_betas.specs.Answers.{is_done}
-use Rattle.image_form.specs.Form.{form1, Header}
+use Prim.Native.Nat.{ℕ}
+use mathlib.Core.Path.{sym, ap, ◌∙◌}
+use Rattle.map_betas.proofs.AnswerLaws.{stops, goes_on}
 use Rattle.image_form.proofs.HeaderLaws.{header_done}
-use Rattle.image_reader.proofs.Accepted.{image_header, image_loans, image_blocks}
+use Rattle.image_form.specs.Form.{darts_of}
+use Rattle.image_reader.specs.Tests.{loans_test, blocks_test, image_test}
 use Rattle.image_reader.proofs.reader.image_test.Goals as goal
-use Rattle.image_reader.proofs.reader.image_test.Goals.{Else-not-is_done}
+use Rattle.std.specs.Prelude.{is_ok}
 
-passed : (c : Else-not-is_done) → is_done c.header_test-h.result ≡ true
-passed c = sym c.is_done.ensures ∙ c.if-not-is_done.false
+pub returns-in_err-header_test : goal.returns-in_err-header_test
+unfolding image_test
+returns-in_err-header_test c = stops c.header_test.ensures _ _ c.in_err-header_test.was c.from_residual.ensures.1
 
-head : (c : Else-not-is_done) → Header form1 c.args.most c.args.bytes.now
-head c = header_done _ _ (ap is_done (sym c.header_test-h.ensures) ∙ passed c)
+pub darts_of-n-requires : goal.darts_of-n-requires
+darts_of-n-requires c =
+    let h = header_done _ _ (ap is_ok (sym c.header_test.ensures ∙ c.in_ok-header_test.was)) in
+    (omega (arith, h.whole), omega (arith, h.few))
 
-pub returns-then-not-is_done : goal.returns-then-not-is_done
-returns-then-not-is_done c = image_header _ _ _ _ _ _ c.header_test-h.ensures (sym c.is_done.ensures ∙ c.if-not-is_done.true)
-
-pub word_at-n-requires : goal.word_at-n-requires
-word_at-n-requires c = omega (arith, (head (goal.at.word_at-n-requires c).Else-not-is_done).whole)
-
-pub loans_test-l-requires : goal.loans_test-l-requires
-loans_test-l-requires c = omega (arith, (head (goal.at.loans_test-l-requires c).Else-not-is_done).few)
-
-pub returns-then-not-is_done-2 : goal.returns-then-not-is_done-2
-returns-then-not-is_done-2 c =
-    image_loans _ _ _ _ _ _ c.header_test-h.ensures (passed (goal.at.returns-then-not-is_done-2 c).Else-not-is_done) _ _ c.word_at-n.ensures
-    c.loans_test-l.ensures
-    (sym c.is_done-2.ensures ∙ c.if-not-is_done-2.true)
+pub returns-in_err-loans_test : goal.returns-in_err-loans_test
+unfolding image_test
+returns-in_err-loans_test c =
+    let args = c.args in
+    stops (c.loans_test.ensures ∙ ap (λ (k : ℕ). loans_test k args.flags args.loans args.rows) c.darts_of-n.ensures) _ _
+    c.in_err-loans_test.was c.from_residual-in_err-loans_test.ensures.1
+    ∙ goes_on c.header_test.ensures _ c.in_ok-header_test.was
 
 pub word_at-requires : goal.word_at-requires
-word_at-requires c = omega (arith, (head (goal.at.word_at-requires c).Else-not-is_done).whole)
+word_at-requires c = omega (arith, (header_done _ _ (ap is_ok (sym c.header_test.ensures ∙ c.in_ok-header_test.was))).whole)
 
 pub blocks_test-requires : goal.blocks_test-requires
 blocks_test-requires c =
-    let h = head (goal.at.blocks_test-requires c).Else-not-is_done in
-    (omega (arith, h.some), omega (arith, h.few), omega (arith, h.fits))
+    let h = header_done _ _ (ap is_ok (sym c.header_test.ensures ∙ c.in_ok-header_test.was)) in
+    (omega (arith, h.some), omega (arith, h.fits))
 
 pub returns : goal.returns
+unfolding image_test
 returns c =
-    image_blocks _ _ _ _ _ _ c.header_test-h.ensures (passed (goal.at.returns c).Else-not-is_done) _ _ c.word_at-n.ensures c.loans_test-l.ensures
-    (sym c.is_done-2.ensures ∙ c.if-not-is_done-2.false) _ _ c.word_at.ensures
-    c.blocks_test.ensures
+    let args = c.args in
+    c.blocks_test.ensures ∙ ap (λ (k : ℕ). blocks_test args.bytes.now k c.word_at.result) c.darts_of-n.ensures
+    ∙ ap (blocks_test args.bytes.now (darts_of args.bytes.now)) c.word_at.ensures
+    ∙ goes_on (c.loans_test.ensures ∙ ap (λ (k : ℕ). loans_test k args.flags args.loans args.rows) c.darts_of-n.ensures) _
+    c.in_ok-loans_test.was
+    ∙ goes_on c.header_test.ensures _ c.in_ok-header_test.was

@@ -7,7 +7,7 @@ pub put_header-requires : goal.put_header-requires
 put_header-requires c =
     let s = sizes _ _ _ _ c.requires.0 in
     let f = fits _ _ _ _ c.requires.0 _ c.requires.2 in
-    (omega (arith, f.0), s.1, omega (arith, s.3, c.requires.1))
+    (omega (arith, f.0), omega (arith, s.3, c.requires.1))
 
 pub put_words-requires : goal.put_words-requires
 put_words-requires c =
@@ -24,7 +24,6 @@ put_points-requires c =
     let s = sizes _ _ _ _ c.requires.0 in
     let f = fits _ _ _ _ c.requires.0 _ c.requires.2 in (
       s.0,
-      s.1,
       c.requires.0.mark_room,
       c.requires.0.coordinate_room,
       omega (arith, f.3, c.vertex_offset.ensures),

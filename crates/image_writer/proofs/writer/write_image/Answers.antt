@@ -1,25 +1,18 @@
 -- `writer::write_image` meets its contract: refused by its tests, or as far as there is room. Assumes nothing.
 use mathlib.Core.Path.{sym, ap, ◌∙◌}
-use Rattle.map_betas.specs.Answers.{is_done}
 use Rattle.map_betas.proofs.AnswerLaws.{behind_refused, behind_done}
 use Rattle.image_writer.specs.Writes.{write_image}
 use Rattle.image_writer.proofs.WriteLaws.{writable}
+use Rattle.std.specs.Prelude.{is_ok}
 use Rattle.image_writer.proofs.writer.write_image.Goals as goal
 
-pub returns-then-not-is_done : goal.returns-then-not-is_done
+pub returns-in_err-write_test : goal.returns-in_err-write_test
 unfolding write_image
-returns-then-not-is_done c =
-    behind_refused c.write_test-t.result _ c.write_test-t.ensures _ _
-    (sym c.is_done.ensures ∙ c.if-not-is_done.true)
+returns-in_err-write_test c = behind_refused c.write_test.ensures _ _ _ c.in_err-write_test.was c.from_residual.ensures.1
 
 pub write_tested-requires : goal.write_tested-requires
-write_tested-requires c =
-    let args = c.args in
-    writable args.rows.now args.flags.now args.vertices.now args.coordinates.now
-    (sym (ap is_done c.write_test-t.ensures) ∙ sym c.is_done.ensures ∙ c.if-not-is_done.false)
+write_tested-requires c = writable _ _ _ _ (ap is_ok (sym c.write_test.ensures ∙ c.in_ok-write_test.was))
 
 pub returns : goal.returns
 unfolding write_image
-returns c =
-    c.write_tested.ensures ∙ behind_done c.write_test-t.result _ c.write_test-t.ensures _ _
-    (sym c.is_done.ensures ∙ c.if-not-is_done.false)
+returns c = c.write_tested.ensures ∙ behind_done c.write_test.ensures _ _ c.in_ok-write_test.was

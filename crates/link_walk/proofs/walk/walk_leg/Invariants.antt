@@ -9,11 +9,13 @@ use Rattle.link_walk.specs.Walk.{step_of, walk}
 use Rattle.link_walk.proofs.StepLaws.{changeable}
 use Rattle.link_walk.proofs.walk.walk_leg.Given as goal
 
-abbrev pub invariant-loop-l : goal.invariant-loop-l
-invariant-loop-l l =
-    WellFormed l.rows × (length l.rows ≡ length l.initial.rows) × (l.l < darts l.rows) × (l.r < darts l.rows) × (l.steps + changeable l.parting l.rows ≤ length l.initial.rows)
-    × ((f : ℕ) × (changeable l.parting l.rows < f) × (walk (step_of l.parting l.ld l.rd) f l.rows l.i l.j l.stop l.l l.r l.steps
-    ≡ walk (step_of l.parting l.ld l.rd) (suc (length l.initial.rows)) l.initial.rows l.i l.j l.stop l.l0 l.r0 0))
+abbrev pub invariant-loop-pair : goal.invariant-loop-pair
+invariant-loop-pair g l =
+    WellFormed l.rows × (length l.rows ≡ length l.initial.rows) × (l.pair.l < darts l.rows) × (l.pair.r < darts l.rows)
+    × (l.steps + changeable g.S.Step.parting l.rows ≤ length l.initial.rows)
+    × ((f : ℕ) × (changeable g.S.Step.parting l.rows < f)
+    × (walk (step_of g.S.Step.parting l.call.l l.call.r) f l.rows l.i l.j l.stop l.pair.l l.pair.r l.steps
+    ≡ walk (step_of g.S.Step.parting l.call.l l.call.r) (suc (length l.initial.rows)) l.initial.rows l.i l.j l.stop l.fn.first.l l.fn.first.r 0))
 
-abbrev pub decreases-loop-l : goal.decreases-loop-l
-decreases-loop-l l = changeable l.parting l.rows
+abbrev pub decreases-loop-pair : goal.decreases-loop-pair
+decreases-loop-pair g l = changeable g.S.Step.parting l.rows

@@ -3,7 +3,6 @@ use native.Mathlib.Omega.{arith}
 use Rattle.map_betas.proofs.BetaLaws.{opp_lt}
 use Rattle.map_betas.proofs.CoreLaws.{link_base, link_image, link_self, link_done}
 use Rattle.map_betas.proofs.betas.link_core.Goals as goal
-use Rattle.map_betas.proofs.betas.link_core.Goals.{then-i-gt1+else-l-r, else-i-gt1}
 
 pub returns-then-beta_at-ne0 : goal.returns-then-beta_at-ne0
 returns-then-beta_at-ne0 c = link_base _ _ _ _ (omega arith)
@@ -22,6 +21,4 @@ set_beta-requires-2 c = omega (arith, opp_lt c.args.i (omega arith), c.opp_of-j.
 
 pub returns : goal.returns
 returns c =
-    link_done _ _ _ _ _ _ _ c.opp_of-j.ensures (omega arith) (omega arith)
-    (λ h. elim c.if-i-gt1.branch [ then-i-gt1+else-l-r w ↦ w.if-l-r.false | else-i-gt1 w ↦ absurd (omega arith) ])
-    c.set_beta.ensures c.set_beta-2.ensures
+    link_done _ _ _ _ _ _ _ c.opp_of-j.ensures (omega arith) (omega arith) (λ h. omega arith) c.set_beta.ensures c.set_beta-2.ensures

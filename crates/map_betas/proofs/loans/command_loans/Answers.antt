@@ -13,4 +13,4 @@ as_loans marks queue output needed vertices coordinates k e = rw e
 pub returns : goal.returns
 returns c =
     let a = c.args in
-    as_loans a.marks a.queue a.output a.needed a.vertices a.coordinates _ c.counted_as-answers.ensures
+    as_loans a.marks a.queue a.output a.needed a.vertices a.coordinates _ c.counted_as.ensures

@@ -8,16 +8,14 @@ use Rattle.report_lines.proofs.LineLaws.{used_start, used_yes, used_no}
 use Rattle.report_lines.proofs.lines.count_used.Goals as goal
 
 pub loop-d-init : goal.loop-d-init
-loop-d-init c = (omega arith, omega (arith, c.requires.0), omega arith, used_start c.args.flags.now)
+loop-d-init c = (omega arith, used_start c.args.flags.now)
 
 pub loop-d-preserved : goal.loop-d-preserved
 loop-d-preserved c = (
   omega arith,
-  omega arith,
-  omega arith,
   by_cases (ℕ_discrete (get_or c.args.flags.now c.loop-d.d 0) 0)
       (λ (z : get_or c.args.flags.now c.loop-d.d 0 ≡ 0).
-      let y = used_yes c.args.flags.now c.loop-d.d c.loop-d.used c.loop-d.invariant.0 c.loop-d.invariant.3 z in omega arith)
+      let y = used_yes c.args.flags.now c.loop-d.d c.loop-d.used (omega arith) c.loop-d.invariant.1 z in omega arith)
       (λ (z : get_or c.args.flags.now c.loop-d.d 0 ≢ 0).
-      let y = used_no c.args.flags.now c.loop-d.d c.loop-d.used c.loop-d.invariant.0 c.loop-d.invariant.3 z in omega arith),
+      let y = used_no c.args.flags.now c.loop-d.d c.loop-d.used (omega arith) c.loop-d.invariant.1 z in omega arith),
 )

@@ -1,5 +1,9 @@
 -- `lines::put_refusal` meets its contract: its parts one behind the other. Assumes nothing.
 use native.Mathlib.Omega.{arith}
+use mathlib.Core.Path.{ap, ◌∙◌}
+use Prim.Native.Nat.{ℕ}
+use Rattle.report_text.specs.Texts.{lay}
+use Rattle.report_lines.specs.Report.{value_of}
 use Rattle.report_text.proofs.TextLaws.{lay_next}
 use Rattle.report_lines.proofs.LineLaws.{told_is}
 use Rattle.report_lines.proofs.lines.put_refusal.Goals as goal
@@ -65,9 +69,10 @@ put_byte-requires c =
 
 pub returns : goal.returns
 returns c = (
-  told_is c.args.a c.tell-t.result _ _ _ _ _ _ _ _ _ _ _ _ _ _ c.tell-t.ensures c.put_value-q.ensures.1
+  told_is c.args.told _ _ _ _ _ _ _ _ _ _ _ _ _ _ c.put_value-q.ensures.1
       c.put_value-first.ensures.1 c.put_value-second.ensures.1 c.put_value-third.ensures.1 c.requires
-      c.put_bytes-p.ensures c.put_value-q.ensures.0 c.put_value-first.ensures.0
+      c.put_bytes-p.ensures
+      (c.put_value-q.ensures.0 ∙ ap (λ (k : ℕ). lay c.put_bytes-p.new.out c.put_bytes-p.result (value_of k)) c.from.ensures) c.put_value-first.ensures.0
       c.put_value-second.ensures.0 c.put_value-third.ensures.0 c.put_byte.ensures,
   omega (
     arith,

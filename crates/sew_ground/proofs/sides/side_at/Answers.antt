@@ -4,5 +4,5 @@ use Rattle.sew_ground.proofs.sides.side_at.Goals as goal
 
 pub returns-clause-value : goal.returns-clause-value
 returns-clause-value c =
-    side_is _ _ _ _ _ _ _ _ c.beta_at.ensures c.beta_at-2.ensures c.larger_of-far.ensures
+    side_is _ _ _ _ _ _ _ _ c.beta.ensures c.beta-2.ensures c.max-far.ensures
     c.cell_core-edge.ensures.value c.cell_core-near.ensures.value c.cell_core-end.ensures.value

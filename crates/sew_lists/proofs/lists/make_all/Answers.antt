@@ -14,9 +14,8 @@ loop-k-preserved c =
     let e = c.make_one-written.ensures in (
       making_turn a.flags.now a.vertices.now a.coordinates.now a.list.now a.rows.now a.output.now a.plan.now l.k
           l.written l.rows l.output l.plan m (omega (arith, more)) (omega (arith, more, out, c.requires.4)) _ e.plan_after,
-      omega (arith, more),
-      e.marks_unchanged.0 ∙ l.invariant.2,
-      e.marks_unchanged.1 ∙ l.invariant.3,
+      e.marks_unchanged.0 ∙ l.invariant.1,
+      e.marks_unchanged.1 ∙ l.invariant.2,
     )
 
 pub returns-clause-plan_after : goal.returns-clause-plan_after
@@ -24,6 +23,6 @@ returns-clause-plan_after c =
     let a = c.args in
     let l = c.loop-k in
     let over = c.loop-k-test.false in
-    let in_List = l.invariant.1 in
+    let in_List = l.auto.k-end in
     let out = l.invariant.0.output_long in making_ends a.flags.now a.vertices.now a.coordinates.now a.list.now a.rows.now a.output.now a.plan.now l.k
     l.written l.rows l.output l.plan l.invariant.0 (omega (arith, over, in_List)) (omega (arith, in_List, out, c.requires.4))

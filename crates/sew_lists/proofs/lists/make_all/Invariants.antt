@@ -1,5 +1,4 @@
 -- `lists::make_all` meets its contract: command by command, what is made so far and what the rest makes are what the list makes. Assumes nothing.
-use Prim.Native.Nat.{◌-◌, ◌≤◌}
 use mathlib.Core.Path.{◌≡◌}
 use Rattle.sew_commands.specs.Commands.{run}
 use Rattle.sew_commands.specs.Lists.{turn}
@@ -7,7 +6,6 @@ use Rattle.sew_commands.proofs.TurnLaws.{Making}
 use Rattle.sew_lists.proofs.lists.make_all.Given as goal
 
 abbrev pub invariant-loop-k : goal.invariant-loop-k
-invariant-loop-k l = Making (run l.flags l.vertices l.coordinates) l.list l.initial.rows l.initial.output l.initial.plan l.k (turn l.written l.rows l.output l.plan) × (l.k ≤ l.count) × (l.marks ≡ l.initial.marks) × (l.queue ≡ l.initial.queue)
-
-abbrev pub decreases-loop-k : goal.decreases-loop-k
-decreases-loop-k l = l.count - l.k
+invariant-loop-k l =
+    Making (run l.flags l.vertices l.coordinates) l.list l.initial.rows l.initial.output l.initial.plan l.k (turn l.written l.rows l.output l.plan)
+    × (l.marks ≡ l.initial.marks) × (l.queue ≡ l.initial.queue)

@@ -4,5 +4,5 @@ use Rattle.sew_pairs.proofs.pairs.far_of.Goals as goal
 
 pub returns : goal.returns
 returns c =
-    let e = far_is _ _ _ _ _ c.beta_at.ensures c.beta_at-2.ensures c.larger_of.ensures in
-    (e, rw e (far_below _ _ c.requires.0))
+    let e = far_is _ _ _ _ _ c.beta.ensures c.beta-2.ensures c.max.ensures in
+    (e, rw e (far_below _ _ c.args.rows.formed))

@@ -17,7 +17,7 @@ use Rattle.sew_settling.proofs.settling.settle_splits.Goals.{After-struct_known-
 few : (c : After-struct_known-1) → 1 + 3 * c.tally_pairs-t.result.count ≤ 100000000
 few c =
     let k = pairs_some _ _ _ _ _ c.tally_pairs-t.ensures.value refl in
-    omega (arith, k, c.requires.0.sized.whole, c.requires.0.sized.few)
+    omega (arith, k, c.args.rows.formed.sized.whole, c.args.rows.formed.sized.few)
 
 pub overflow_mul-t : goal.overflow_mul-t
 overflow_mul-t c = omega (arith, few (goal.at.overflow_mul-t c).After-struct_known-1)
@@ -26,14 +26,7 @@ pub overflow_add-t : goal.overflow_add-t
 overflow_add-t c = omega (arith, few (goal.at.overflow_add-t c).After-struct_known-1)
 
 pub wanted-k-requires : goal.wanted-k-requires
-wanted-k-requires c = (
-  c.requires.0,
-  c.requires.1,
-  c.requires.2,
-  clean_same _ _ _ _ _ c.requires.3 c.tally_pairs-t.ensures.marks_unchanged.0 c.tally_pairs-t.ensures.marks_unchanged.1,
-  entries_most _ _ _ _ _ c.tally_pairs-t.ensures.value refl,
-  few (goal.at.wanted-k-requires c).After-struct_known-1,
-)
+wanted-k-requires c = (c.requires.0, c.requires.1, clean_same _ _ _ _ _ c.requires.2 c.tally_pairs-t.ensures.marks_unchanged.0 c.tally_pairs-t.ensures.marks_unchanged.1, entries_most _ _ _ _ _ c.tally_pairs-t.ensures.value refl, few (goal.at.wanted-k-requires c).After-struct_known-1)
 
 pub returns-then-room-k-clause-plan_after : goal.returns-then-room-k-clause-plan_after
 returns-then-room-k-clause-plan_after c =
@@ -46,8 +39,7 @@ pub write_splits-n-requires : goal.write_splits-n-requires
 write_splits-n-requires c = (
   c.requires.0,
   c.requires.1,
-  c.requires.2,
-  clean_same _ _ _ _ _ c.requires.3 (c.wanted-k.ensures.marks_unchanged.0 ∙ c.tally_pairs-t.ensures.marks_unchanged.0)
+  clean_same _ _ _ _ _ c.requires.2 (c.wanted-k.ensures.marks_unchanged.0 ∙ c.tally_pairs-t.ensures.marks_unchanged.0)
       (c.wanted-k.ensures.marks_unchanged.1 ∙ c.tally_pairs-t.ensures.marks_unchanged.1),
   omega (
     arith,

@@ -7,8 +7,8 @@ use Rattle.sew_settling.proofs.settling.wanted.Goals as goal
 
 -- as many entries as there can be fit a number
 pub overflow_add-result : goal.overflow_add-result
-overflow_add-result c = omega (arith, entries_count _ _ _ _ _ c.tally_pairs-t.ensures.value refl, c.requires.4, c.requires.5)
+overflow_add-result c = omega (arith, entries_count _ _ _ _ _ c.tally_pairs.ensures.value refl, c.requires.3, c.requires.4)
 
 pub returns-clause-lower_bound : goal.returns-clause-lower_bound
 returns-clause-lower_bound c =
-    let n = entries_count _ _ _ _ _ c.tally_pairs-t.ensures.value refl in (le_of_eq (sym n), λ h. n)
+    let n = entries_count _ _ _ _ _ c.tally_pairs.ensures.value refl in (le_of_eq (sym n), λ h. n)

@@ -14,36 +14,34 @@ write_pair-at-requires c = (
   c.requires.0,
   c.requires.1,
   c.requires.2,
-  c.requires.3,
   omega (
     arith,
-    c.requires.4,
-    pair_length c.args.rows.now c.args.ld c.args.rd (first_pairs c.args.rows.now c.args.ld c.args.rd),
+    c.requires.3,
+    pair_length c.args.rows.list.now c.args.ld c.args.rd (first_pairs c.args.rows.list.now c.args.ld c.args.rd),
   ),
 )
 
 pub write_leg-requires : goal.write_leg-requires
 write_leg-requires c = (
-  c.requires.0,
   omega arith,
   omega arith,
-  rw c.beta_at-l.ensures (c.requires.0.below _ _),
-  rw c.beta_at-r.ensures (c.requires.0.below _ _),
-  clean_same _ _ _ _ _ c.requires.3 c.write_pair-at.ensures.marks_unchanged.0 c.write_pair-at.ensures.marks_unchanged.1,
+  rw c.beta-l.ensures (c.args.rows.formed.below _ _),
+  rw c.beta-r.ensures (c.args.rows.formed.below _ _),
+  clean_same _ _ _ _ _ c.requires.2 c.write_pair-at.ensures.marks_unchanged.0 c.write_pair-at.ensures.marks_unchanged.1,
   omega (
     arith,
-    c.requires.4,
+    c.requires.3,
     c.write_pair-at.ensures.value.0,
     c.write_pair-at.auto.plan,
-    pair_length c.args.rows.now c.args.ld c.args.rd (first_pairs c.args.rows.now c.args.ld c.args.rd),
-    ap (λ (ps : Pairs). length (entries_of c.args.rows.now ps))
-        (first_is c.args.rows.now c.args.ld c.args.rd _ _ c.beta_at-l.ensures c.beta_at-r.ensures),
+    pair_length c.args.rows.list.now c.args.ld c.args.rd (first_pairs c.args.rows.list.now c.args.ld c.args.rd),
+    ap (λ (ps : Pairs). length (entries_of c.args.rows.list.now ps))
+        (first_is c.args.rows.list.now c.args.ld c.args.rd _ _ c.beta-l.ensures c.beta-r.ensures),
   ),
-  rw c.beta_at-l.ensures (first_over c.args.rows.now c.requires.0 c.args.ld c.requires.1),
+  rw c.beta-l.ensures (first_over c.args.rows.list.now c.args.rows.formed c.args.ld c.requires.0),
 )
 
 pub returns-clause-value : goal.returns-clause-value
 returns-clause-value c =
     first_written _ _ _ _ _ _ _ _ _ _ _ c.write_pair-at.ensures.value.1 c.write_pair-at.ensures.value.0
     c.write_leg.ensures.value.1 c.write_leg.ensures.value.0
-    (first_is _ _ _ _ _ c.beta_at-l.ensures c.beta_at-r.ensures)
+    (first_is _ _ _ _ _ c.beta-l.ensures c.beta-r.ensures)

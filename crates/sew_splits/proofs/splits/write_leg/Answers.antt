@@ -8,48 +8,47 @@ use Rattle.sew_pairs.specs.Pairs.{Pairs}
 use Rattle.sew_pairs.proofs.LegLaws.{leg_stops, leg_next, pair_fits, entries_turn, leg_ends}
 use Rattle.sew_splits.proofs.splits.write_leg.Goals as goal
 
-pub returns-then-leg_over-clause-value : goal.returns-then-leg_over-clause-value
-returns-then-leg_over-clause-value c =
-    leg_ends _ _ _ _ _ _ (leg_stops _ _ _ _ _ _ _ c.leg_over.ensures c.if-leg_over.true _).0 c.loop-i.invariant.5 c.loop-i.invariant.6
+pub returns-clause-value : goal.returns-clause-value
+returns-clause-value c =
+    leg_ends _ _ _ _ _ _ (leg_stops _ _ _ _ _ _ _ c.leg_over.ensures c.loop-rows-test.false _).0 c.loop-rows.invariant.5 c.loop-rows.invariant.6
 
 pub write_pair-at-requires : goal.write_pair-at-requires
 write_pair-at-requires c = (
-  c.requires.0,
-  c.loop-i.invariant.3,
-  c.loop-i.invariant.4,
-  clean_same _ _ _ _ _ c.requires.5 c.loop-i.invariant.0 c.loop-i.invariant.1,
+  c.loop-rows.invariant.3,
+  c.loop-rows.invariant.4,
+  clean_same _ _ _ _ _ c.requires.4 c.loop-rows.invariant.0 c.loop-rows.invariant.1,
   omega (
     arith,
-    c.requires.6,
-    c.loop-i.invariant.2,
-    c.loop-i.invariant.5,
-    pair_fits c.args.rows.now c.loop-i.l c.loop-i.r _ _
-        (leg_next c.args.rows.now c.args.i c.args.j c.args.stop c.loop-i.l c.loop-i.r _
-        c.leg_over.ensures c.if-leg_over.false
-        c.loop-i.invariant.7 _ _ refl refl).0,
+    c.requires.5,
+    c.loop-rows.invariant.2,
+    c.loop-rows.invariant.5,
+    pair_fits c.args.rows.list.now c.loop-rows.l c.loop-rows.r _ _
+        (leg_next c.args.rows.list.now c.args.i c.args.j c.args.stop c.loop-rows.l c.loop-rows.r _
+        c.leg_over.ensures c.loop-rows-test.true
+        c.loop-rows.invariant.7 _ _ refl refl).0,
   ),
 )
 
-pub loop-i-smaller : goal.loop-i-smaller
-loop-i-smaller c =
-    let n = leg_next c.args.rows.now c.args.i c.args.j c.args.stop c.loop-i.l c.loop-i.r _
+pub loop-rows-smaller : goal.loop-rows-smaller
+loop-rows-smaller c =
+    let n = leg_next c.args.rows.list.now c.args.i c.args.j c.args.stop c.loop-rows.l c.loop-rows.r _
     c.leg_over.ensures
-    c.if-leg_over.false c.loop-i.invariant.7 _ _ c.beta_at-l.ensures c.beta_at-r.ensures in
+    c.loop-rows-test.true c.loop-rows.invariant.7 _ _ c.beta-l.ensures c.beta-r.ensures in
     omega (arith, ap (λ (ps : Pairs). length ps) n.0)
 
-pub loop-i-preserved : goal.loop-i-preserved
-loop-i-preserved c =
-    let n = leg_next c.args.rows.now c.args.i c.args.j c.args.stop c.loop-i.l c.loop-i.r _
+pub loop-rows-preserved : goal.loop-rows-preserved
+loop-rows-preserved c =
+    let n = leg_next c.args.rows.list.now c.args.i c.args.j c.args.stop c.loop-rows.l c.loop-rows.r _
     c.leg_over.ensures
-    c.if-leg_over.false c.loop-i.invariant.7 _ _ c.beta_at-l.ensures c.beta_at-r.ensures in
-    let v = entries_turn c.args.rows.now c.loop-i.l c.loop-i.r _ _ n.0 _ _ _ _ c.write_pair-at.ensures.value.1
+    c.loop-rows-test.true c.loop-rows.invariant.7 _ _ c.beta-l.ensures c.beta-r.ensures in
+    let v = entries_turn c.args.rows.list.now c.loop-rows.l c.loop-rows.r _ _ n.0 _ _ _ _ c.write_pair-at.ensures.value.1
     c.write_pair-at.ensures.value.0 in (
-      c.write_pair-at.ensures.marks_unchanged.0 ∙ c.loop-i.invariant.0,
-      c.write_pair-at.ensures.marks_unchanged.1 ∙ c.loop-i.invariant.1,
-      c.write_pair-at.auto.plan ∙ c.loop-i.invariant.2,
-      rw c.beta_at-l.ensures (c.requires.0.below _ _),
-      rw c.beta_at-r.ensures (c.requires.0.below _ _),
-      v.0 ∙ c.loop-i.invariant.5,
-      v.1 ∙ c.loop-i.invariant.6,
+      c.write_pair-at.ensures.marks_unchanged.0 ∙ c.loop-rows.invariant.0,
+      c.write_pair-at.ensures.marks_unchanged.1 ∙ c.loop-rows.invariant.1,
+      c.write_pair-at.auto.plan ∙ c.loop-rows.invariant.2,
+      rw c.beta-l.ensures (c.args.rows.formed.below _ _),
+      rw c.beta-r.ensures (c.args.rows.formed.below _ _),
+      v.0 ∙ c.loop-rows.invariant.5,
+      v.1 ∙ c.loop-rows.invariant.6,
       n.2,
     )

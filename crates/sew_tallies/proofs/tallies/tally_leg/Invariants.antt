@@ -8,11 +8,11 @@ use Rattle.sew_pairs.specs.Pairs.{leg_pairs, Over}
 use Rattle.sew_tallies.proofs.TallyLaws.{Leg}
 use Rattle.sew_tallies.proofs.tallies.tally_leg.Given as goal
 
-abbrev pub invariant-loop-t : goal.invariant-loop-t
-invariant-loop-t l =
-    (l.marks ≡ l.initial.marks) × (l.queue ≡ l.initial.queue) × (l.t.l < darts l.rows) × (l.r < darts l.rows)
-    × (l.t.count + 3 * length (leg_pairs l.rows l.i l.j l.stop l.t.l l.r) ≤ l.initial.t.count + 3 * length (leg_pairs l.rows l.i l.j l.stop l.initial.t.l l.initial.r))
-    × Over l.rows l.i l.stop l.t.l × (Leg l.splits l.rows l.i l.j l.stop l.t l.r ≡ Leg l.splits l.rows l.i l.j l.stop l.initial.t l.initial.r)
+abbrev pub invariant-loop-rows : goal.invariant-loop-rows
+invariant-loop-rows g l =
+    (l.marks ≡ l.initial.marks) × (l.queue ≡ l.initial.queue) × (l.t.l < darts l.rows.list.now) × (l.r < darts l.rows.list.now)
+    × (l.t.count + 3 * length (leg_pairs l.rows.list.now l.i l.j l.stop l.t.l l.r) ≤ l.initial.t.count + 3 * length (leg_pairs l.rows.list.now l.i l.j l.stop l.initial.t.l l.initial.r))
+    × Over l.rows.list.now l.i l.stop l.t.l × (Leg g.C.Counting.splits l.rows.list.now l.i l.j l.stop l.t l.r ≡ Leg g.C.Counting.splits l.rows.list.now l.i l.j l.stop l.initial.t l.initial.r)
 
-abbrev pub decreases-loop-t : goal.decreases-loop-t
-decreases-loop-t l = length (leg_pairs l.rows l.i l.j l.stop l.t.l l.r)
+abbrev pub decreases-loop-rows : goal.decreases-loop-rows
+decreases-loop-rows g l = length (leg_pairs l.rows.list.now l.i l.j l.stop l.t.l l.r)

@@ -7,42 +7,32 @@ use Rattle.sew_tallies.proofs.TallyLaws.{stands, next_below, first_tally, open_e
 use Rattle.sew_tallies.proofs.tallies.tally_pairs.Goals as goal
 
 pub tally_leg-first-requires : goal.tally_leg-first-requires
-tally_leg-first-requires c = (
-  c.requires.0,
-  omega arith,
-  omega arith,
-  next_below _ _ _ _ _ _ _ c.requires.0 c.note-one.ensures.value.0,
-  rw c.beta_at.ensures (c.requires.0.below _ _),
-  clean_same _ _ _ _ _ c.requires.3 c.note-one.ensures.marks_unchanged.0 c.note-one.ensures.marks_unchanged.1,
-  omega (arith, c.note-one.ensures.value.1),
-  rw (stands _ _ _ _ _ _ c.note-one.ensures.value.0) (first_over c.args.rows.now c.requires.0 c.args.ld c.requires.1),
-)
+tally_leg-first-requires g c = (omega arith, omega arith, next_below _ _ _ _ _ _ _ c.args.rows.formed c.note-one.ensures.value.0, rw c.beta.ensures (c.args.rows.formed.below _ _), clean_same _ _ _ _ _ c.requires.2 c.note-one.ensures.marks_unchanged.0 c.note-one.ensures.marks_unchanged.1, omega (arith, c.note-one.ensures.value.1), rw (stands _ _ _ _ _ _ c.note-one.ensures.value.0) (first_over c.args.rows.list.now c.args.rows.formed c.args.ld c.requires.0))
 
 pub returns-then-first-ne0-clause-value : goal.returns-then-first-ne0-clause-value
-returns-then-first-ne0-clause-value c =
+returns-then-first-ne0-clause-value g c =
     closed_tally _ _ _ _ _
-    (first_tally _ _ _ _ _ _ _ c.note-one.ensures.value.0 c.beta_at.ensures c.tally_leg-first.ensures.value.0) c.if-first-ne0.true
+    (first_tally _ _ _ _ _ _ _ c.note-one.ensures.value.0 c.beta.ensures c.tally_leg-first.ensures.value.0) c.if-first-ne0.true
 
 pub tally_leg-requires : goal.tally_leg-requires
-tally_leg-requires c = (
-  c.requires.0,
+tally_leg-requires g c = (
   omega arith,
   omega arith,
-  rw c.beta_at-2.ensures (c.requires.0.below _ _),
-  rw c.beta_at-3.ensures (c.requires.0.below _ _),
-  clean_same _ _ _ _ _ c.requires.3 (c.tally_leg-first.ensures.marks_unchanged.0 ∙ c.note-one.ensures.marks_unchanged.0)
+  rw c.beta-2.ensures (c.args.rows.formed.below _ _),
+  rw c.beta-3.ensures (c.args.rows.formed.below _ _),
+  clean_same _ _ _ _ _ c.requires.2 (c.tally_leg-first.ensures.marks_unchanged.0 ∙ c.note-one.ensures.marks_unchanged.0)
       (c.tally_leg-first.ensures.marks_unchanged.1 ∙ c.note-one.ensures.marks_unchanged.1),
-  omega (arith, c.tally_leg-first.ensures.value.1, c.note-one.ensures.value.1, c.requires.0.sized.whole, c.requires.0.sized.few),
-  rw c.beta_at-2.ensures (back_over c.args.rows.now c.requires.0 c.args.ld c.requires.1
-      (open_end _ _ _ _ _ (first_tally _ _ _ _ _ _ _ c.note-one.ensures.value.0 c.beta_at.ensures
+  omega (arith, c.tally_leg-first.ensures.value.1, c.note-one.ensures.value.1, c.args.rows.formed.sized.whole, c.args.rows.formed.sized.few),
+  rw c.beta-2.ensures (back_over c.args.rows.list.now c.args.rows.formed c.args.ld c.requires.0
+      (open_end _ _ _ _ _ (first_tally _ _ _ _ _ _ _ c.note-one.ensures.value.0 c.beta.ensures
       c.tally_leg-first.ensures.value.0) c.if-first-ne0.false)),
 )
 
 pub returns-clause-value : goal.returns-clause-value
-returns-clause-value c =
+returns-clause-value g c =
     open_tally _ _ _ _ c.tally_leg-first.result
-    (first_tally _ _ _ _ _ _ _ c.note-one.ensures.value.0 c.beta_at.ensures c.tally_leg-first.ensures.value.0) _ _ _
-    c.if-first-ne0.false (rw c.beta_at-2.ensures (back_over c.args.rows.now c.requires.0 c.args.ld c.requires.1
-    (open_end _ _ _ _ _ (first_tally _ _ _ _ _ _ _ c.note-one.ensures.value.0 c.beta_at.ensures
+    (first_tally _ _ _ _ _ _ _ c.note-one.ensures.value.0 c.beta.ensures c.tally_leg-first.ensures.value.0) _ _ _
+    c.if-first-ne0.false (rw c.beta-2.ensures (back_over c.args.rows.list.now c.args.rows.formed c.args.ld c.requires.0
+    (open_end _ _ _ _ _ (first_tally _ _ _ _ _ _ _ c.note-one.ensures.value.0 c.beta.ensures
     c.tally_leg-first.ensures.value.0) c.if-first-ne0.false)))
-    c.beta_at-2.ensures c.beta_at-3.ensures c.tally_leg.ensures.value.0
+    c.beta-2.ensures c.beta-3.ensures c.tally_leg.ensures.value.0

@@ -1,31 +1,27 @@
 -- `tested::operate` meets its contract: refused by the guard, or run. Assumes nothing.
 use mathlib.Core.Path.{◌≡◌, sym, ap, ◌∙◌}
-use mathlib.Core.Bool.{true}
 use lib.ListN.{length}
 use Rattle.map_betas.specs.declared.loans.Loans.{Loans}
-use Rattle.map_betas.specs.Answers.{is_done}
 use Rattle.map_betas.specs.Guards.{guard_of}
 use Rattle.map_betas.proofs.AnswerLaws.{behind_refused, behind_done}
 use Rattle.map_betas.proofs.GuardLaws.{ready}
 use Rattle.sew_operations.specs.Operations.{loans_of, operation}
 use Rattle.sew_operations.proofs.OperationLaws.{lent_marks, lent_queue, lent_slots}
 use Rattle.sew_tested.proofs.tested.operate.Goals as goal
-use Rattle.sew_tested.proofs.tested.operate.Goals.{After-guard-g, Else-not-is_done}
+use Rattle.sew_tested.proofs.tested.operate.Goals.{After-guard}
+use Rattle.std.specs.Prelude.{is_ok}
 
-guarded : (c : After-guard-g) →
-    c.guard-g.result ≡ guard_of c.args.rows.now c.args.flags.now (loans_of c.args.operation (length c.args.marks.now) (length
+guarded : (c : After-guard) →
+    c.guard.result ≡ guard_of c.args.rows.now c.args.flags.now (loans_of c.args.operation (length c.args.marks.now) (length
     c.args.queue.now) (length c.args.vertices.now) (length c.args.coordinates.now)) 1 c.args.ld c.args.rd
 guarded c =
-    c.guard-g.ensures ∙ ap (λ (l : Loans). guard_of c.args.rows.now c.args.flags.now l 1 c.args.ld c.args.rd)
+    c.guard.ensures ∙ ap (λ (l : Loans). guard_of c.args.rows.now c.args.flags.now l 1 c.args.ld c.args.rd)
     c.loans_of-loans.ensures
 
-passed : (c : Else-not-is_done) → is_done c.guard-g.result ≡ true
-passed c =
-    sym c.is_done.ensures ∙ c.if-not-is_done.false
-
-pub returns-then-not-is_done : goal.returns-then-not-is_done
+pub returns-in_err-guard : goal.returns-in_err-guard
 unfolding operation
-returns-then-not-is_done c = behind_refused c.guard-g.result _ (guarded (goal.at.returns-then-not-is_done c).After-guard-g) _ _ (sym c.is_done.ensures ∙ c.if-not-is_done.true)
+returns-in_err-guard c =
+    behind_refused (guarded (goal.at.returns-in_err-guard c).After-guard) _ _ _ c.in_err-guard.was c.from_residual.ensures.1
 
 pub run_wiped-requires : goal.run_wiped-requires
 run_wiped-requires c =
@@ -35,7 +31,7 @@ run_wiped-requires c =
     let vertices = length c.args.vertices.now in
     let coordinates = length c.args.coordinates.now in
     let r = ready c.args.rows.now c.args.flags.now (loans_of op marks queue vertices coordinates) 1 c.args.ld
-    c.args.rd (ap is_done (sym (guarded (goal.at.run_wiped-requires c).After-guard-g)) ∙ passed (goal.at.run_wiped-requires c).Else-not-is_done) in
+    c.args.rd (ap is_ok (sym (guarded (goal.at.run_wiped-requires c).After-guard) ∙ c.in_ok-guard.was)) in
     let l = r.lent in (
       r.map.formed,
       lent_marks _ marks queue vertices coordinates op l,
@@ -48,4 +44,4 @@ run_wiped-requires c =
 
 pub returns : goal.returns
 unfolding operation
-returns c = c.run_wiped.ensures ∙ behind_done c.guard-g.result _ (guarded (goal.at.returns c).After-guard-g) _ _ (passed (goal.at.returns c).Else-not-is_done)
+returns c = c.run_wiped.ensures ∙ behind_done (guarded (goal.at.returns c).After-guard) _ _ c.in_ok-guard.was

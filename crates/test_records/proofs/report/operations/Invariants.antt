@@ -1,9 +1,0 @@
--- `operations` is safe and ends. Assumes nothing.
-use Rattle.std.proofs.Common.{◌-◌, ◌≤◌}
-use Rattle.test_records.proofs.report.operations.Given as goal
-
-abbrev pub invariant-loop-i : goal.invariant-loop-i
-invariant-loop-i g l = l.i ≤ 31
-
-abbrev pub decreases-loop-i : goal.decreases-loop-i
-decreases-loop-i g l = 31 - l.i

@@ -26,8 +26,12 @@ pub fn copy_bytes(bytes: &[u8], from: usize, flags: &mut [u8])
     requires { from + length flags.old ≤ length bytes.now }
     ensures { flags.new ≡ bytes_at bytes.now from (length flags.old) }
 {
-    let end = from + flags.len();
-    flags.copy_from_slice(&bytes[from..end]);
+    let mut at = from;
+    // Stays: by std's `copy_from_slice` the archive for C would need `memmove` from outside.
+    for flag in flags {
+        *flag = bytes[at];
+        at += 1;
+    }
 }
 
 // Puts the record at `at` into its slot.

@@ -1,4 +1,4 @@
-// The calls of the library under one name, with what they take and answer. `inkcapper_c` exports them with C linkage.
+// The calls of the library under one name, with what they take and answer. `inkcapper_flat` has them as C has them, on numbers and slices.
 #![tactic(auto)]
 
 pub use cell_calls::basic_ops::cell_id;

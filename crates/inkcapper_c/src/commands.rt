@@ -3,8 +3,6 @@ ghost use Rattle.std.specs.Prelude.{◌≡◌};
 ghost use Rattle.map_betas.specs.Flat.{crossing, crossed};
 ghost use Rattle.sew_commands.specs.Calls.{commands as commandsOf};
 
-use inkcapper::hand_on;
-
 // A list of links, sews, unlinks and unsews, three numbers each, under one map test.
 #[unsafe(no_mangle)]
 pub extern "C" fn inkcapper_commands(
@@ -23,18 +21,16 @@ pub extern "C" fn inkcapper_commands(
         ≡ crossed (commandsOf rows.old marks.old queue.old output.old flags.now
         vertices.now coordinates.now plan.old commands.now) }
 {
-    hand_on(
-        inkcapper::commands(
-            rows,
-            marks,
-            queue,
-            output,
-            flags,
-            vertices,
-            coordinates,
-            plan,
-            commands,
-        ),
+    inkcapper_flat::commands::inkcapper_commands(
+        rows,
+        marks,
+        queue,
+        output,
+        flags,
+        vertices,
+        coordinates,
+        plan,
+        commands,
         values,
     )
 }

@@ -4,8 +4,6 @@ ghost use Rattle.cell_names.specs.Calls.{id_call};
 ghost use Rattle.cell_steps.specs.declared.cells.Class.TheVariants.{Vertex, Edge, Face, Volume};
 ghost use Rattle.map_betas.specs.Flat.{crossing, crossed};
 
-use inkcapper::{Class, hand_on};
-
 // The least dart of d's vertex.
 #[unsafe(no_mangle)]
 pub extern "C" fn inkcapper_vertex_id(
@@ -19,10 +17,7 @@ pub extern "C" fn inkcapper_vertex_id(
     ensures { crossing result values.new (marks.new, queue.new)
         ≡ crossed (id_call rows.now marks.old queue.old flags.now Vertex d) }
 {
-    hand_on(
-        inkcapper::cell_id(rows, marks, queue, flags, Class::Vertex, d),
-        values,
-    )
+    inkcapper_flat::ids::inkcapper_vertex_id(rows, marks, queue, flags, d, values)
 }
 
 // The least dart of d's edge.
@@ -38,10 +33,7 @@ pub extern "C" fn inkcapper_edge_id(
     ensures { crossing result values.new (marks.new, queue.new)
         ≡ crossed (id_call rows.now marks.old queue.old flags.now Edge d) }
 {
-    hand_on(
-        inkcapper::cell_id(rows, marks, queue, flags, Class::Edge, d),
-        values,
-    )
+    inkcapper_flat::ids::inkcapper_edge_id(rows, marks, queue, flags, d, values)
 }
 
 // The face identifier of d, as the Rust walks it.
@@ -57,10 +49,7 @@ pub extern "C" fn inkcapper_face_id(
     ensures { crossing result values.new (marks.new, queue.new)
         ≡ crossed (id_call rows.now marks.old queue.old flags.now Face d) }
 {
-    hand_on(
-        inkcapper::cell_id(rows, marks, queue, flags, Class::Face, d),
-        values,
-    )
+    inkcapper_flat::ids::inkcapper_face_id(rows, marks, queue, flags, d, values)
 }
 
 // The least dart of d's volume.
@@ -76,8 +65,5 @@ pub extern "C" fn inkcapper_volume_id(
     ensures { crossing result values.new (marks.new, queue.new)
         ≡ crossed (id_call rows.now marks.old queue.old flags.now Volume d) }
 {
-    hand_on(
-        inkcapper::cell_id(rows, marks, queue, flags, Class::Volume, d),
-        values,
-    )
+    inkcapper_flat::ids::inkcapper_volume_id(rows, marks, queue, flags, d, values)
 }

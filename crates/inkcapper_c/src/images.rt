@@ -4,8 +4,6 @@ ghost use Rattle.image_reader.specs.Reads.{loaded, read_image};
 ghost use Rattle.image_writer.specs.Writes.{write_image};
 ghost use Rattle.map_betas.specs.Flat.{crossing, crossed};
 
-use inkcapper::hand_on;
-
 // Reads an image of form 1 into flags, vertex marks, coordinates and rows.
 #[unsafe(no_mangle)]
 pub extern "C" fn inkcapper_read_image(
@@ -19,10 +17,7 @@ pub extern "C" fn inkcapper_read_image(
     ensures { crossing result values.new (loaded flags.new vertices.new coordinates.new rows.new)
         ≡ crossed (read_image bytes.now flags.old vertices.old coordinates.old rows.old) }
 {
-    hand_on(
-        inkcapper::read_image(bytes, flags, vertices, coordinates, rows),
-        values,
-    )
+    inkcapper_flat::images::inkcapper_read_image(bytes, flags, vertices, coordinates, rows, values)
 }
 
 // Writes an image of form 1 from rows, flags, vertex marks and coordinates.
@@ -38,8 +33,5 @@ pub extern "C" fn inkcapper_write_image(
     ensures { crossing result values.new bytes.new
         ≡ crossed (write_image rows.now flags.now vertices.now coordinates.now bytes.old) }
 {
-    hand_on(
-        inkcapper::write_image(rows, flags, vertices, coordinates, bytes),
-        values,
-    )
+    inkcapper_flat::images::inkcapper_write_image(rows, flags, vertices, coordinates, bytes, values)
 }

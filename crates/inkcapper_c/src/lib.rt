@@ -1,6 +1,4 @@
-// The calls as C has them, on numbers and slices. Each export makes the library's call and hands on its answer: the number is returned, the three values are
-// written (0 where absent). Only what is here is exported.
-// Stays: links, identifiers, orbits and lists differ in a constant each. C has them by these names, and no macro may write a function.
+// The calls as C has them: each hands on to the function of `inkcapper_flat` that has its name, and says what that says. Only what is here is exported.
 #![tactic(auto)]
 
 pub mod commands;

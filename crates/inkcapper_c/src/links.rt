@@ -3,8 +3,6 @@ ghost use Rattle.std.specs.Prelude.{◌≡◌};
 ghost use Rattle.link_walk.specs.Calls.{one_link, two_link, three_link, one_unlink, two_unlink, three_unlink};
 ghost use Rattle.map_betas.specs.Flat.{crossing, crossed};
 
-use inkcapper::hand_on;
-
 // Links ld and rd by beta 1.
 #[unsafe(no_mangle)]
 pub extern "C" fn inkcapper_one_link(
@@ -16,7 +14,7 @@ pub extern "C" fn inkcapper_one_link(
 ) -> u32
     ensures { crossing result values.new rows.new ≡ crossed (one_link rows.old flags.now ld rd) }
 {
-    hand_on(inkcapper::link::<1>(rows, flags, ld, rd), values)
+    inkcapper_flat::links::inkcapper_one_link(rows, flags, ld, rd, values)
 }
 
 // Links ld and rd by beta 2.
@@ -30,7 +28,7 @@ pub extern "C" fn inkcapper_two_link(
 ) -> u32
     ensures { crossing result values.new rows.new ≡ crossed (two_link rows.old flags.now ld rd) }
 {
-    hand_on(inkcapper::link::<2>(rows, flags, ld, rd), values)
+    inkcapper_flat::links::inkcapper_two_link(rows, flags, ld, rd, values)
 }
 
 // Links the faces of ld and rd by beta 3, pair by pair.
@@ -44,7 +42,7 @@ pub extern "C" fn inkcapper_three_link(
 ) -> u32
     ensures { crossing result values.new rows.new ≡ crossed (three_link rows.old flags.now ld rd) }
 {
-    hand_on(inkcapper::three_link(rows, flags, ld, rd), values)
+    inkcapper_flat::links::inkcapper_three_link(rows, flags, ld, rd, values)
 }
 
 // Unlinks ld and its image by beta 1, which is answered.
@@ -57,7 +55,7 @@ pub extern "C" fn inkcapper_one_unlink(
 ) -> u32
     ensures { crossing result values.new rows.new ≡ crossed (one_unlink rows.old flags.now ld) }
 {
-    hand_on(inkcapper::unlink::<1>(rows, flags, ld), values)
+    inkcapper_flat::links::inkcapper_one_unlink(rows, flags, ld, values)
 }
 
 // Unlinks ld and its image by beta 2, which is answered.
@@ -70,7 +68,7 @@ pub extern "C" fn inkcapper_two_unlink(
 ) -> u32
     ensures { crossing result values.new rows.new ≡ crossed (two_unlink rows.old flags.now ld) }
 {
-    hand_on(inkcapper::unlink::<2>(rows, flags, ld), values)
+    inkcapper_flat::links::inkcapper_two_unlink(rows, flags, ld, values)
 }
 
 // Unlinks the faces of ld and its image by beta 3, which is answered, pair by pair.
@@ -83,5 +81,5 @@ pub extern "C" fn inkcapper_three_unlink(
 ) -> u32
     ensures { crossing result values.new rows.new ≡ crossed (three_unlink rows.old flags.now ld) }
 {
-    hand_on(inkcapper::three_unlink(rows, flags, ld), values)
+    inkcapper_flat::links::inkcapper_three_unlink(rows, flags, ld, values)
 }

@@ -4,8 +4,6 @@ ghost use Rattle.cell_names.specs.Calls.{list_call};
 ghost use Rattle.cell_steps.specs.declared.cells.Class.TheVariants.{Vertex, Edge, Face, Volume};
 ghost use Rattle.map_betas.specs.Flat.{crossing, crossed};
 
-use inkcapper::{Class, hand_on};
-
 // Lists the vertices of darts that are not unused, ascending.
 #[unsafe(no_mangle)]
 pub extern "C" fn inkcapper_list_vertices(
@@ -19,10 +17,7 @@ pub extern "C" fn inkcapper_list_vertices(
     ensures { crossing result values.new (marks.new, queue.new, output.new)
         ≡ crossed (list_call rows.now marks.old queue.old output.old flags.now Vertex) }
 {
-    hand_on(
-        inkcapper::list_cells(rows, marks, queue, output, flags, Class::Vertex),
-        values,
-    )
+    inkcapper_flat::lists::inkcapper_list_vertices(rows, marks, queue, output, flags, values)
 }
 
 // Lists the edges of darts that are not unused, ascending.
@@ -38,10 +33,7 @@ pub extern "C" fn inkcapper_list_edges(
     ensures { crossing result values.new (marks.new, queue.new, output.new)
         ≡ crossed (list_call rows.now marks.old queue.old output.old flags.now Edge) }
 {
-    hand_on(
-        inkcapper::list_cells(rows, marks, queue, output, flags, Class::Edge),
-        values,
-    )
+    inkcapper_flat::lists::inkcapper_list_edges(rows, marks, queue, output, flags, values)
 }
 
 // Lists the faces of darts that are not unused, ascending.
@@ -57,10 +49,7 @@ pub extern "C" fn inkcapper_list_faces(
     ensures { crossing result values.new (marks.new, queue.new, output.new)
         ≡ crossed (list_call rows.now marks.old queue.old output.old flags.now Face) }
 {
-    hand_on(
-        inkcapper::list_cells(rows, marks, queue, output, flags, Class::Face),
-        values,
-    )
+    inkcapper_flat::lists::inkcapper_list_faces(rows, marks, queue, output, flags, values)
 }
 
 // Lists the volumes of darts that are not unused, ascending.
@@ -76,8 +65,5 @@ pub extern "C" fn inkcapper_list_volumes(
     ensures { crossing result values.new (marks.new, queue.new, output.new)
         ≡ crossed (list_call rows.now marks.old queue.old output.old flags.now Volume) }
 {
-    hand_on(
-        inkcapper::list_cells(rows, marks, queue, output, flags, Class::Volume),
-        values,
-    )
+    inkcapper_flat::lists::inkcapper_list_volumes(rows, marks, queue, output, flags, values)
 }

@@ -4,8 +4,6 @@ ghost use Rattle.cell_steps.specs.Calls.{orbit_call, custom_call};
 ghost use Rattle.cell_steps.specs.declared.policy.OrbitPolicy.TheVariants.{Vertex, VertexLinear, Edge, Face, FaceLinear, Volume, VolumeLinear};
 ghost use Rattle.map_betas.specs.Flat.{crossing, crossed};
 
-use inkcapper::{OrbitPolicy, hand_on};
-
 // Lists the Vertex orbit of d, first found first.
 #[unsafe(no_mangle)]
 pub extern "C" fn inkcapper_orbit_vertex(
@@ -19,10 +17,7 @@ pub extern "C" fn inkcapper_orbit_vertex(
     ensures { crossing result values.new (marks.new, output.new)
         ≡ crossed (orbit_call rows.now marks.old output.old flags.now Vertex d) }
 {
-    hand_on(
-        inkcapper::orbit(rows, marks, output, flags, OrbitPolicy::Vertex, d),
-        values,
-    )
+    inkcapper_flat::orbits::inkcapper_orbit_vertex(rows, marks, output, flags, d, values)
 }
 
 // Lists the VertexLinear orbit of d, first found first.
@@ -38,10 +33,7 @@ pub extern "C" fn inkcapper_orbit_vertex_linear(
     ensures { crossing result values.new (marks.new, output.new)
         ≡ crossed (orbit_call rows.now marks.old output.old flags.now VertexLinear d) }
 {
-    hand_on(
-        inkcapper::orbit(rows, marks, output, flags, OrbitPolicy::VertexLinear, d),
-        values,
-    )
+    inkcapper_flat::orbits::inkcapper_orbit_vertex_linear(rows, marks, output, flags, d, values)
 }
 
 // Lists the Edge orbit of d, first found first.
@@ -57,10 +49,7 @@ pub extern "C" fn inkcapper_orbit_edge(
     ensures { crossing result values.new (marks.new, output.new)
         ≡ crossed (orbit_call rows.now marks.old output.old flags.now Edge d) }
 {
-    hand_on(
-        inkcapper::orbit(rows, marks, output, flags, OrbitPolicy::Edge, d),
-        values,
-    )
+    inkcapper_flat::orbits::inkcapper_orbit_edge(rows, marks, output, flags, d, values)
 }
 
 // Lists the Face orbit of d, first found first.
@@ -76,10 +65,7 @@ pub extern "C" fn inkcapper_orbit_face(
     ensures { crossing result values.new (marks.new, output.new)
         ≡ crossed (orbit_call rows.now marks.old output.old flags.now Face d) }
 {
-    hand_on(
-        inkcapper::orbit(rows, marks, output, flags, OrbitPolicy::Face, d),
-        values,
-    )
+    inkcapper_flat::orbits::inkcapper_orbit_face(rows, marks, output, flags, d, values)
 }
 
 // Lists the FaceLinear orbit of d, first found first.
@@ -95,10 +81,7 @@ pub extern "C" fn inkcapper_orbit_face_linear(
     ensures { crossing result values.new (marks.new, output.new)
         ≡ crossed (orbit_call rows.now marks.old output.old flags.now FaceLinear d) }
 {
-    hand_on(
-        inkcapper::orbit(rows, marks, output, flags, OrbitPolicy::FaceLinear, d),
-        values,
-    )
+    inkcapper_flat::orbits::inkcapper_orbit_face_linear(rows, marks, output, flags, d, values)
 }
 
 // Lists the Volume orbit of d, first found first.
@@ -114,10 +97,7 @@ pub extern "C" fn inkcapper_orbit_volume(
     ensures { crossing result values.new (marks.new, output.new)
         ≡ crossed (orbit_call rows.now marks.old output.old flags.now Volume d) }
 {
-    hand_on(
-        inkcapper::orbit(rows, marks, output, flags, OrbitPolicy::Volume, d),
-        values,
-    )
+    inkcapper_flat::orbits::inkcapper_orbit_volume(rows, marks, output, flags, d, values)
 }
 
 // Lists the VolumeLinear orbit of d, first found first.
@@ -133,10 +113,7 @@ pub extern "C" fn inkcapper_orbit_volume_linear(
     ensures { crossing result values.new (marks.new, output.new)
         ≡ crossed (orbit_call rows.now marks.old output.old flags.now VolumeLinear d) }
 {
-    hand_on(
-        inkcapper::orbit(rows, marks, output, flags, OrbitPolicy::VolumeLinear, d),
-        values,
-    )
+    inkcapper_flat::orbits::inkcapper_orbit_volume_linear(rows, marks, output, flags, d, values)
 }
 
 // Lists the orbit of d under the listed betas, in their order.
@@ -153,8 +130,5 @@ pub extern "C" fn inkcapper_orbit_custom(
     ensures { crossing result values.new (marks.new, output.new)
         ≡ crossed (custom_call rows.now marks.old output.old flags.now betas.now d) }
 {
-    hand_on(
-        inkcapper::orbit_custom(rows, marks, output, flags, betas, d),
-        values,
-    )
+    inkcapper_flat::orbits::inkcapper_orbit_custom(rows, marks, output, flags, betas, d, values)
 }

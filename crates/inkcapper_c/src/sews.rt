@@ -4,8 +4,6 @@ ghost use Rattle.sew_ground.specs.Calls.{one_sew, one_unsew, two_sew, two_unsew}
 ghost use Rattle.sew_pairs.specs.Calls.{three_unsew};
 ghost use Rattle.map_betas.specs.Flat.{crossing, crossed};
 
-use inkcapper::hand_on;
-
 // The 1-sew of ld and rd.
 #[unsafe(no_mangle)]
 pub extern "C" fn inkcapper_one_sew(
@@ -21,10 +19,7 @@ pub extern "C" fn inkcapper_one_sew(
     ensures { crossing result values.new (rows.new, marks.new, queue.new, plan.new)
         ≡ crossed (one_sew rows.old marks.old queue.old flags.now plan.old ld rd) }
 {
-    hand_on(
-        inkcapper::one_sew(rows, marks, queue, flags, plan, ld, rd),
-        values,
-    )
+    inkcapper_flat::sews::inkcapper_one_sew(rows, marks, queue, flags, plan, ld, rd, values)
 }
 
 // The 1-unsew of ld.
@@ -41,10 +36,7 @@ pub extern "C" fn inkcapper_one_unsew(
     ensures { crossing result values.new (rows.new, marks.new, queue.new, plan.new)
         ≡ crossed (one_unsew rows.old marks.old queue.old flags.now plan.old ld) }
 {
-    hand_on(
-        inkcapper::one_unsew(rows, marks, queue, flags, plan, ld),
-        values,
-    )
+    inkcapper_flat::sews::inkcapper_one_unsew(rows, marks, queue, flags, plan, ld, values)
 }
 
 // The 2-sew of ld and rd.
@@ -65,18 +57,16 @@ pub extern "C" fn inkcapper_two_sew(
         ≡ crossed (two_sew rows.old marks.old queue.old flags.now vertices.now
         coordinates.now plan.old ld rd) }
 {
-    hand_on(
-        inkcapper::two_sew(
-            rows,
-            marks,
-            queue,
-            flags,
-            vertices,
-            coordinates,
-            plan,
-            ld,
-            rd,
-        ),
+    inkcapper_flat::sews::inkcapper_two_sew(
+        rows,
+        marks,
+        queue,
+        flags,
+        vertices,
+        coordinates,
+        plan,
+        ld,
+        rd,
         values,
     )
 }
@@ -95,10 +85,7 @@ pub extern "C" fn inkcapper_two_unsew(
     ensures { crossing result values.new (rows.new, marks.new, queue.new, plan.new)
         ≡ crossed (two_unsew rows.old marks.old queue.old flags.now plan.old ld) }
 {
-    hand_on(
-        inkcapper::two_unsew(rows, marks, queue, flags, plan, ld),
-        values,
-    )
+    inkcapper_flat::sews::inkcapper_two_unsew(rows, marks, queue, flags, plan, ld, values)
 }
 
 // The 3-unsew of ld.
@@ -115,8 +102,5 @@ pub extern "C" fn inkcapper_three_unsew(
     ensures { crossing result values.new (rows.new, marks.new, queue.new, plan.new)
         ≡ crossed (three_unsew rows.old marks.old queue.old flags.now plan.old ld) }
 {
-    hand_on(
-        inkcapper::three_unsew(rows, marks, queue, flags, plan, ld),
-        values,
-    )
+    inkcapper_flat::sews::inkcapper_three_unsew(rows, marks, queue, flags, plan, ld, values)
 }

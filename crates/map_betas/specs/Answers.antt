@@ -10,7 +10,7 @@
 use Rattle.std.specs.Prelude.{ℕ, List, ⊤, Result, Ok, Err}
 use Rattle.map_betas.specs.declared.error.Done.{Done}
 use Rattle.map_betas.specs.declared.error.Loan.{Loan}
-use Rattle.map_betas.specs.declared.error.Loan.TheVariants.{Marks, Queue, Output, Flags, Vertices, Coordinates, Rows}
+use Rattle.map_betas.specs.declared.error.Loan.TheVariants.{Marks, Queue, Output, Flags, Vertices, Coordinates, Rows, Numbered}
 use Rattle.map_betas.specs.declared.error.Refusal.{Refusal}
 use Rattle.map_betas.specs.declared.error.Refusal.TheVariants.{BadSize, ShortLoan, NotAMap, BadDart, BadBeta, NonFreeBase}
 use Rattle.map_betas.specs.declared.error.Refusal.TheVariants.{NonFreeImage, AlreadyFree, AsymmetricalFaces, BadGeometry, PlanRoom, BadImage, BadCommand}
@@ -44,6 +44,7 @@ loan_number Flags = 4
 loan_number Vertices = 5
 loan_number Coordinates = 6
 loan_number Rows = 7
+loan_number (Numbered k) = k
 
 -- a refusal's number and values (scope: numbers): the one place that goes by cases on a refusal
 abbrev pub refusal_of : Refusal → Told

@@ -1,17 +1,37 @@
 // What a call answers. Ports cmap/error.rs: `LinkError` and `SewError` are the refusals 6 to 10; the others are this build's own.
 ghost use Rattle.std.specs.Prelude.{◌≡◌};
-ghost use Rattle.map_betas.specs.Answers.{told_of, refusal_of, tell_of};
+ghost use Rattle.map_betas.specs.Answers.{told_of, loan_number, refusal_of, tell_of};
 
-// The loans of a call, by their numbers.
+// The loans of a call, in the order of their numbers.
 #[derive(Clone, Copy, Debug, PartialEq, Eq)]
 pub enum Loan {
-    Marks = 1,
-    Queue = 2,
-    Output = 3,
-    Flags = 4,
-    Vertices = 5,
-    Coordinates = 6,
-    Rows = 7,
+    Marks,
+    Queue,
+    Output,
+    Flags,
+    Vertices,
+    Coordinates,
+    Rows,
+    // A loan by its number: no call answers one, but a refusal that a caller makes may name any.
+    Numbered(u32),
+}
+
+// The number of a loan.
+impl From<Loan> for u64 {
+    ghost from_gives = { λ loan number. number ≡ loan_number loan };
+
+    fn from(loan: Loan) -> u64 {
+        match loan {
+            Loan::Marks => 1,
+            Loan::Queue => 2,
+            Loan::Output => 3,
+            Loan::Flags => 4,
+            Loan::Vertices => 5,
+            Loan::Coordinates => 6,
+            Loan::Rows => 7,
+            Loan::Numbered(k) => u64::from(k),
+        }
+    }
 }
 
 // Why a call was refused: a variant for each of the numbers 1 to 14.
@@ -87,7 +107,7 @@ impl From<Refusal> for Told {
     fn from(refusal: Refusal) -> Told {
         match refusal {
             Refusal::BadSize(k) => numbers(1, k as u64, 0, 0),
-            Refusal::ShortLoan(loan) => numbers(2, loan as u64, 0, 0),
+            Refusal::ShortLoan(loan) => numbers(2, u64::from(loan), 0, 0),
             Refusal::NotAMap(i, d) => numbers(3, u64::from(i), u64::from(d), 0),
             Refusal::BadDart(k) => numbers(4, u64::from(k), 0, 0),
             Refusal::BadBeta(i) => numbers(5, u64::from(i), 0, 0),

@@ -1,6 +1,5 @@
 // The replay: record after record, each with its call.
 use crate::calls::call;
-use inkcapper::hand_on;
 use test_records::compared::as_recorded;
 use test_records::loans::{flags, rows_before};
 use test_records::records::{FILLER, Walked, count, darts, extent, noted, room};
@@ -17,10 +16,7 @@ fn replayed(
     plan: &mut [u32],
 ) -> bool {
     let mut values = [0u64; 3];
-    let number = match call(record, rows, output, flags, plan) {
-        Some(answer) => hand_on(answer, &mut values),
-        None => NONE,
-    };
+    let number = call(record, rows, output, flags, plan, &mut values).unwrap_or(NONE);
     as_recorded(record, number, &values, rows, output, plan)
 }
 

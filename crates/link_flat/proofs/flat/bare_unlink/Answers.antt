@@ -1,9 +1,9 @@
--- `flat::unlink` meets its contract: what the tests refuse, or the core on real darts of a map. Assumes nothing.
+-- `flat::bare_unlink` meets its contract: what the tests refuse, or the core on real darts of a map. Assumes nothing.
 use native.Mathlib.Omega.{arith}
 use mathlib.Core.Path.{ap}
 use Rattle.link_walk.proofs.CallLaws.{passed}
 use Rattle.std.specs.Prelude.{is_ok}
-use Rattle.link_flat.proofs.flat.unlink.Goals as goal
+use Rattle.link_flat.proofs.flat.bare_unlink.Goals as goal
 
 pub unlink_core-requires : goal.unlink_core-requires
 unlink_core-requires g c =

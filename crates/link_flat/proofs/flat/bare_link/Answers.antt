@@ -1,9 +1,9 @@
--- `flat::link` meets its contract: what the tests refuse, or the core on real darts of a map. Assumes nothing.
+-- `flat::bare_link` meets its contract: what the tests refuse, or the core on real darts of a map. Assumes nothing.
 use native.Mathlib.Omega.{arith}
 use mathlib.Core.Path.{ap}
 use Rattle.link_walk.proofs.CallLaws.{passed}
 use Rattle.std.specs.Prelude.{is_ok}
-use Rattle.link_flat.proofs.flat.link.Goals as goal
+use Rattle.link_flat.proofs.flat.bare_link.Goals as goal
 
 pub link_core-requires : goal.link_core-requires
 link_core-requires g c =
